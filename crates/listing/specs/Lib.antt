@@ -1,0 +1,4 @@
+pub mod Statements
+pub mod Procedures
+pub mod Meaning
+pub mod Lawful
