@@ -1,7 +1,7 @@
 -- What a lawful program keeps, each as a test.
 use mathlib.Core.Bool.{Bool, true, false, _&&_}
 use mathlib.Core.List.{List, [], _∷_}
-use Prim.Native.Nat.{ℕ, suc, _+_}
+use Prim.Native.Nat.{ℕ, _+_}
 use lib.Dec.{eqb, leb, ltb}
 use lib.ListN.{length}
 use Rattle.listing.specs.declared.numbers.Cell.{Cell}
@@ -11,7 +11,7 @@ use Rattle.listing.specs.declared.control.Control.{Control}
 use Rattle.listing.specs.declared.control.Control.the-variants.{Next, Goto, Test, Call, Ret}
 use Rattle.listing.specs.declared.statement.Statement.{Statement}
 use Rattle.listing.specs.Statements.{cells-of}
-use Rattle.listing.specs.Procedures.{rets, procedure, ends-in-ret}
+use Rattle.listing.specs.Procedures.{procedure, ends-in-ret}
 use Rattle.listing.specs.Meaning.{Meaning, size, procs, flow}
 
 -- 0 to 31 globals and 1 to 32 locals
@@ -30,7 +30,7 @@ each test (x ∷ xs) = test x && each test xs
 -- a test of each element with its place, the first having the place n
 abbrev pub every : {A : Type 0} → (ℕ → A → Bool) → ℕ → List A → Bool
 every test n [] = true
-every test n (x ∷ xs) = test n x && every test (suc n) xs
+every test n (x ∷ xs) = test n x && every test (n + 1) xs
 
 -- the cells of a statement are among the first c
 abbrev pub owns : ℕ → Statement Cell → Bool
@@ -40,21 +40,25 @@ owns c s = each (λ x. ltb (x .0) c) (cells-of s)
 abbrev pub together : List Control → ℕ → ℕ → Bool
 together cs n k = ltb k (length cs) && eqb (procedure cs k) (procedure cs n)
 
+-- the target of a jump from point n passes a test of the two points
+abbrev pub lands : (ℕ → ℕ → Bool) → ℕ → Control → Bool
+lands test n Next = true
+lands test n (Goto k) = test n (k .0)
+lands test n (Test k) = test n (k .0)
+lands test n (Call p) = true
+lands test n Ret = true
+
 -- a jump from point n stays in its procedure
 abbrev pub stays : List Control → ℕ → Control → Bool
-stays cs n Next = true
-stays cs n (Goto k) = together cs n (k .0)
-stays cs n (Test k) = together cs n (k .0)
-stays cs n (Call p) = true
-stays cs n Ret = true
+stays cs = lands (together cs)
 
--- a called procedure exists
-abbrev pub exists : List Control → ℕ → Control → Bool
-exists cs n Next = true
-exists cs n (Goto k) = true
-exists cs n (Test k) = true
-exists cs n (Call p) = ltb (p .0) (rets cs)
-exists cs n Ret = true
+-- a called procedure is one of p
+abbrev pub exists : ℕ → ℕ → Control → Bool
+exists p n Next = true
+exists p n (Goto k) = true
+exists p n (Test k) = true
+exists p n (Call q) = ltb (q .0) p
+exists p n Ret = true
 
 -- counts in range, a last `ret`, at most 60 procedures, cells of the program's own, jumps that stay, callees that exist
 abbrev pub is-lawful : Meaning → Bool
@@ -65,4 +69,4 @@ is-lawful m =
     && (leb (procs m) 60
     && (each (owns (m .globals + m .locals)) (m .statements)
     && (every (stays (flow m)) 0 (flow m)
-    && every (exists (flow m)) 0 (flow m))))))
+    && every (exists (procs m)) 0 (flow m))))))

@@ -1,0 +1,53 @@
+-- The least element that fails a test, step by step.
+use mathlib.Core.Path.{_≡_, refl, sym, ap, _∙_}
+use mathlib.Core.Bool.{Bool, true, false, cond}
+use mathlib.Core.List.{List, [], _∷_}
+use Prim.Native.Nat.{ℕ, zero, suc, _+_, _<_, _≤_}
+use native.Mathlib.Numerals.{add-one}
+use native.Mathlib.Omega.{arith}
+use lib.ListN.{length, drop}
+use Rattle.std.specs.Finite.{nth}
+use Rattle.std.specs.declared.option.Option.the-variants.{Some, None}
+use Rattle.std.proofs.shelf.Lists.{at-drop-all}
+use Rattle.std.proofs.shelf.Tests.{cond-true, cond-false}
+use Rattle.draft.specs.Rules.{failing}
+
+module _ {A : Type 0} where
+  drops : (xs : List A) (n : ℕ) (x : A) → nth xs n ≡ Some x → drop n xs ≡ x ∷ drop (suc n) xs
+  drops [] n x e = let z : _≡_ {A = ℕ} 0 1 = cc in absurd (omega arith)
+  drops (y ∷ xs) zero x e = cc
+  drops (y ∷ xs) (suc n) x e = drops xs n x e
+
+  -- what stands at a place, and what is left after it
+  pub drop-nth : (xs : List A) (n : ℕ) (x : A) → nth xs n ≡ Some x → drop n xs ≡ x ∷ drop (n + 1) xs
+  drop-nth xs n x e = rw add-one (drops xs n x e)
+
+  pub nth-within : (xs : List A) (n : ℕ) (x : A) → nth xs n ≡ Some x → n < length xs
+  nth-within [] n x e = let z : _≡_ {A = ℕ} 0 1 = cc in absurd (omega arith)
+  nth-within (y ∷ xs) zero x e = omega arith
+  nth-within (y ∷ xs) (suc n) x e = omega (arith, nth-within xs n x e)
+
+  pub nth-none : (xs : List A) (n : ℕ) → nth xs n ≡ None → length xs ≤ n
+  nth-none [] n e = omega arith
+  nth-none (y ∷ xs) zero e = let z : _≡_ {A = ℕ} 0 1 = cc in absurd (omega arith)
+  nth-none (y ∷ xs) (suc n) e = omega (arith, nth-none xs n e)
+
+  module _ (test : ℕ → A → Bool) (xs : List A) (n : ℕ) where
+    pub failing-here : (x : A) → nth xs n ≡ Some x → test n x ≡ false → failing test n (drop n xs) ≡ Some n
+    failing-here x e f = ap (failing test n) (drop-nth xs n x e) ∙ cond-false _ _ _ f
+
+    pub failing-more : (x : A) → nth xs n ≡ Some x → test n x ≡ true → failing test n (drop n xs) ≡ failing test (n + 1) (drop (n + 1) xs)
+    failing-more x e t = ap (failing test n) (drop-nth xs n x e) ∙ cond-true _ _ _ t
+
+    pub failing-none : length xs ≤ n → failing test n (drop n xs) ≡ None
+    failing-none h = at-drop-all (failing test n) xs n h
+
+  -- two tests that agree on every element
+  pub failing-same : (f g : ℕ → A → Bool) (xs : List A) (n : ℕ) → ((k : ℕ) (x : A) → nth xs k ≡ Some x → f (n + k) x ≡ g (n + k) x) → failing f n xs ≡ failing g n xs
+  failing-same f g [] n h = refl
+  failing-same f g (x ∷ xs) n h =
+      let z : n + 0 ≡ n = omega arith in
+      let here : f n x ≡ g n x = sym (ap (λ m. f m x) z) ∙ (h 0 x refl ∙ ap (λ m. g m x) z) in
+      let rest : failing f (n + 1) xs ≡ failing g (n + 1) xs
+        = failing-same f g xs (n + 1) (λ k y e. let s : n + 1 + k ≡ n + suc k = omega arith in ap (λ m. f m y) s ∙ (h (suc k) y e ∙ sym (ap (λ m. g m y) s))) in
+      ap (λ b. cond b (failing f (n + 1) xs) (Some n)) here ∙ ap (λ o. cond (g n x) o (Some n)) rest

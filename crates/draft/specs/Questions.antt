@@ -1,0 +1,15 @@
+-- The numbers of the questions.
+use Prim.Native.Nat.{ℕ}
+use Rattle.draft.specs.declared.question.Question.{Question}
+use Rattle.draft.specs.declared.question.Question.the-variants.{Size, Form, Ranges, Length, End, Procedures, Cells, Jumps, Callees}
+
+abbrev pub number-of : Question → ℕ
+number-of Size = 1
+number-of Form = 2
+number-of Ranges = 3
+number-of Length = 4
+number-of End = 5
+number-of Procedures = 6
+number-of Cells = 7
+number-of Jumps = 8
+number-of Callees = 9
