@@ -7,10 +7,15 @@ use native.Mathlib.Numerals.{add-one}
 use native.Mathlib.Omega.{arith}
 use lib.ListN.{length, drop}
 use Rattle.std.specs.Finite.{nth}
+use Rattle.std.specs.declared.option.Option.{Option}
 use Rattle.std.specs.declared.option.Option.the-variants.{Some, None}
 use Rattle.std.proofs.shelf.Lists.{at-drop-all}
 use Rattle.std.proofs.shelf.Tests.{cond-true, cond-false}
 use Rattle.draft.specs.Rules.{failing}
+
+none-parts : (b : Bool) (o : Option ℕ) (n : ℕ) → cond b o (Some n) ≡ None → (b ≡ true) × (o ≡ None)
+none-parts true o n h = (refl, h)
+none-parts false o n h = let z : _≡_ {A = ℕ} 0 1 = cc in absurd (omega arith)
 
 module _ {A : Type 0} where
   drops : (xs : List A) (n : ℕ) (x : A) → nth xs n ≡ Some x → drop n xs ≡ x ∷ drop (suc n) xs
@@ -51,3 +56,14 @@ module _ {A : Type 0} where
       let rest : failing f (n + 1) xs ≡ failing g (n + 1) xs
         = failing-same f g xs (n + 1) (λ k y e. let s : n + 1 + k ≡ n + suc k = omega arith in ap (λ m. f m y) s ∙ (h (suc k) y e ∙ sym (ap (λ m. g m y) s))) in
       ap (λ b. cond b (failing f (n + 1) xs) (Some n)) here ∙ ap (λ o. cond (g n x) o (Some n)) rest
+
+  -- where nothing fails, every element passes
+  pub passing : (test : ℕ → A → Bool) (xs : List A) (n : ℕ) → failing test n xs ≡ None → (k : ℕ) (x : A) → nth xs k ≡ Some x → test (n + k) x ≡ true
+  passing test [] n h k x e = let z : _≡_ {A = ℕ} 0 1 = cc in absurd (omega arith)
+  passing test (y ∷ xs) n h zero x e =
+      let same : y ≡ x = cc in
+      let z : n + 0 ≡ n = omega arith in
+      ap (λ m. test m x) z ∙ (ap (test n) (sym same) ∙ none-parts (test n y) (failing test (n + 1) xs) n h .0)
+  passing test (y ∷ xs) n h (suc k) x e =
+      let s : n + suc k ≡ n + 1 + k = omega arith in
+      ap (λ m. test m x) s ∙ passing test xs (n + 1) (none-parts (test n y) (failing test (n + 1) xs) n h .1) k x e

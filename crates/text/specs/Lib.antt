@@ -1,0 +1,4 @@
+pub mod Lines
+pub mod Cells
+pub mod Reading
+pub mod Survey
