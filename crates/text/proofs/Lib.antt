@@ -1,2 +1,4 @@
 pub mod Scans
+pub mod Places
 pub mod Written
+pub mod Refusals

@@ -8,7 +8,7 @@ use native.Mathlib.Numerals.{add-one}
 use lib.Dec.{eqb}
 use lib.ListN.{length, drop}
 use Rattle.std.specs.Finite.{nth}
-use Rattle.std.specs.Options.{isSome}
+use Rattle.std.specs.Options.{isSome, mapped}
 use Rattle.std.specs.declared.option.Option.{Option}
 use Rattle.std.specs.declared.option.Option.the-variants.{Some, None}
 use Rattle.std.proofs.shelf.Lists.{length-drop}
@@ -58,3 +58,18 @@ module _ (t : List ℕ) (whole : misformed t ≡ None) where
   pub written-length : length (written t) ≡ length (lines t) - 1
   unfolding written
   written-length = collect-length statement (drop 1 (lines t)) says ∙ length-drop 1 (lines t)
+
+pub none-from : {A : Type 0} (o : Option A) → isSome o ≡ false → o ≡ None
+none-from None e = refl
+none-from (Some x) e = let z : _≡_ {A = ℕ} 0 1 = cc in absurd (omega arith)
+
+pub nth-map : {A B : Type 0} (f : A → B) (xs : List A) (n : ℕ) → nth (map f xs) n ≡ mapped f (nth xs n)
+nth-map f [] n = refl
+nth-map f (x ∷ xs) zero = refl
+nth-map f (x ∷ xs) (suc n) = nth-map f xs n
+
+pub nth-front : {A : Type 0} (xs ys : List A) (n : ℕ) (x : A) → drop n xs ≡ x ∷ ys → nth xs n ≡ Some x
+nth-front [] ys zero x h = let z : _≡_ {A = ℕ} 0 1 = cc in absurd (omega arith)
+nth-front [] ys (suc n) x h = let z : _≡_ {A = ℕ} 0 1 = cc in absurd (omega arith)
+nth-front (a ∷ more) ys zero x h = cc
+nth-front (a ∷ more) ys (suc n) x h = nth-front more ys n x h

@@ -1,65 +1,12 @@
-// Cells by their numbers.
-ghost use mathlib.Core.Path.{_≡_};
-ghost use Prim.Native.Nat.{_≤_};
-ghost use Rattle.text.specs.Cells.{cell-of, two-of, numbered};
-use grammar::name::Name;
-use listing::numbers::Cell;
-use listing::statement::Statement;
-
 // How many globals and locals a program has.
+ghost use Prim.Native.Nat.{_≤_};
+
+mod numbering;
+
 #[derive(Clone, Copy)]
 pub(crate) struct Cells {
     pub globals: u8,
     pub locals: u8,
     ghost few_globals: { globals ≤ 31 },
     ghost few_locals: { locals ≤ 32 },
-}
-
-impl Cells {
-    // The cell of a name, or none where it is not the program's.
-    pub fn cell(&self, name: Name) -> Option<Cell>
-        ensures { λ r. ⌜ r ≡ cell-of (now (self .entry) .globals) (now (self .entry) .locals) name ⌝ }
-    {
-        match name {
-            Name::Global(i) if i < u16::from(self.globals) => Some(Cell(i as u8)),
-            Name::Local(i) if i < u16::from(self.locals) => Some(Cell(self.globals + i as u8)),
-            _ => None,
-        }
-    }
-
-    fn two_cells(&self, first: Name, second: Name) -> Option<(Cell, Cell)>
-        ensures { λ r. ⌜ r ≡ two-of (now (self .entry) .globals) (now (self .entry) .locals) first second ⌝ }
-    {
-        Some((self.cell(first)?, self.cell(second)?))
-    }
-
-    // The statement over numbered cells, or none where a cell is not the program's.
-    pub fn numbered(&self, s: Statement<Name>) -> Option<Statement<Cell>>
-        ensures { λ r. ⌜ r ≡ numbered (now (self .entry) .globals) (now (self .entry) .locals) s ⌝ }
-    {
-        match s {
-            Statement::Set { to } => Some(Statement::Set { to: self.cell(to)? }),
-            Statement::Move { to, from } => {
-                let (to, from) = self.two_cells(to, from)?;
-                Some(Statement::Move { to, from })
-            }
-            Statement::Add { to, left, right } => {
-                let (left, right) = self.two_cells(left, right)?;
-                Some(Statement::Add { to: self.cell(to)?, left, right })
-            }
-            Statement::Read { to } => Some(Statement::Read { to: self.cell(to)? }),
-            Statement::Send { from } => Some(Statement::Send { from: self.cell(from)? }),
-            Statement::Goto { target } => Some(Statement::Goto { target }),
-            Statement::Test { from, target } => Some(Statement::Test { from: self.cell(from)?, target }),
-            Statement::Call { to, callee, argument } => {
-                let (to, argument) = self.two_cells(to, argument)?;
-                Some(Statement::Call { to, callee, argument })
-            }
-            Statement::Ret { from } => Some(Statement::Ret { from: self.cell(from)? }),
-            Statement::Trim { to, from } => {
-                let (to, from) = self.two_cells(to, from)?;
-                Some(Statement::Trim { to, from })
-            }
-        }
-    }
 }

@@ -2,3 +2,4 @@
 mod scan;
 mod cells;
 mod survey;
+mod delivered;

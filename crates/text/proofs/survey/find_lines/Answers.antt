@@ -9,7 +9,9 @@ use lib.ListN.{length, getD, drop, set}
 use Rattle.std.proofs.shelf.Lists.{at-drop-all, drop-drop, length-drop, length-set, getD-set-same, getD-set-other}
 use Rattle.std.proofs.shelf.Tests.{cond-true, cond-false}
 use Rattle.draft.specs.Rules.{failing}
-use Rattle.text.specs.Lines.{lines}
+use native.Mathlib.Numerals.{add-one}
+use Rattle.text.specs.Lines.{lines, place}
+use Rattle.text.proofs.Places.{place-more}
 use Rattle.text.specs.Reading.{formed, misformed}
 use Rattle.text.proofs.survey.find_lines.Needs as need
 use Rattle.text.proofs.survey.find_lines.Needs.{then-count-lt-MOST-LINES, else-count-lt-MOST-LINES}
@@ -43,14 +45,15 @@ loop-at-again c =
     , elim (c .if-count-lt-MOST-LINES .came)
       [ then-count-lt-MOST-LINES w ↦
           λ k h m.
-          ap (λ xs. lines (drop (getD xs k 0) (c .args .bytes .now))) (w .starts-is)
-          ∙ below-more (λ (j : ℕ). j < 1001 → lines (drop (getD (set (c .loop-at .starts) n (c .loop-at .at)) j 0) (c .args .bytes .now)) ≡ drop j all) n
-            (λ j l s. let ne : j ≢ c .loop-at .count = omega arith in ap (λ p. lines (drop p (c .args .bytes .now))) (getD-set-other (c .loop-at .starts) n j (c .loop-at .at) 0 ne) ∙ inv .5 j l s)
-            (λ s. ap (λ p. lines (drop p (c .args .bytes .now))) (getD-set-same (c .loop-at .starts) n (c .loop-at .at) 0 (omega (arith, inv .2))) ∙ inv .3)
+          ap (λ xs. getD xs k 0) (w .starts-is)
+          ∙ below-more (λ (j : ℕ). j < 1001 → getD (set (c .loop-at .starts) n (c .loop-at .at)) j 0 ≡ place j all) n
+            (λ j l s. let ne : j ≢ c .loop-at .count = omega arith in getD-set-other (c .loop-at .starts) n j (c .loop-at .at) 0 ne ∙ inv .5 j l s)
+            (λ s. getD-set-same (c .loop-at .starts) n (c .loop-at .at) 0 (omega (arith, inv .2)) ∙ inv .7)
             k h m
       | else-count-lt-MOST-LINES w ↦
-          λ k h m. ap (λ xs. lines (drop (getD xs k 0) (c .args .bytes .now))) (w .starts-is) ∙ inv .5 k (omega (arith, w .if-count-lt-MOST-LINES .left)) m ]
-    , omega (arith, ap length here, length-drop n all) )
+          λ k h m. ap (λ xs. getD xs k 0) (w .starts-is) ∙ inv .5 k (omega (arith, w .if-count-lt-MOST-LINES .left)) m ]
+    , omega (arith, ap length here, length-drop n all)
+    , omega (arith, inv .7, place-more all _ n (c .line-at-line .result .now) here, ap (λ m. place m all) (add-one n)) )
 
 pub returns : need.returns
 unfolding misformed
