@@ -13,7 +13,7 @@ use Rattle.std.proofs.shelf.Lists.{at-drop-all}
 use Rattle.std.proofs.shelf.Tests.{cond-true, cond-false}
 use Rattle.draft.specs.Rules.{failing}
 
-none-parts : (b : Bool) (o : Option ℕ) (n : ℕ) → cond b o (Some n) ≡ None → (b ≡ true) × (o ≡ None)
+pub none-parts : (b : Bool) (o : Option ℕ) (n : ℕ) → cond b o (Some n) ≡ None → (b ≡ true) × (o ≡ None)
 none-parts true o n h = (refl, h)
 none-parts false o n h = let z : _≡_ {A = ℕ} 0 1 = cc in absurd (omega arith)
 

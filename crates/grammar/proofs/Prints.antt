@@ -121,7 +121,7 @@ module _ {A : Type 0} {read : List ℕ → Option A} {print : A → List ℕ} {F
   pub last-spells : SpellsAll (last read) (λ a. print a ∷ []) Fit
   last-spells = record { prints = last-prints; reads = s .reads }
 
-pair-some : {A B : Type 0} (o : Option A) (u : Option B) (q : A × B) → pair o u ≡ Some q → (o ≡ Some (q .0)) × (u ≡ Some (q .1))
+pub pair-some : {A B : Type 0} (o : Option A) (u : Option B) (q : A × B) → pair o u ≡ Some q → (o ≡ Some (q .0)) × (u ≡ Some (q .1))
 pair-some None u q h = let z : _≡_ {A = ℕ} 0 1 = cc in absurd (omega arith)
 pair-some (Some a) None q h = let z : _≡_ {A = ℕ} 0 1 = cc in absurd (omega arith)
 pair-some {A = A} {B = B} (Some a) (Some b) q h =

@@ -2,3 +2,5 @@ pub mod Scans
 pub mod Places
 pub mod Written
 pub mod Refusals
+pub mod Accepted
+pub mod Lawful
