@@ -11,7 +11,7 @@ use Rattle.std.specs.Options.{isSome, mapped}
 use Rattle.std.specs.declared.option.Option.{Option}
 use Rattle.std.specs.declared.option.Option.the-variants.{Some, None}
 use Rattle.std.proofs.shelf.Lists.{length-map}
-use Rattle.std.proofs.shelf.Tests.{and-from}
+use Rattle.std.proofs.shelf.Tests.{and-from, and-parts}
 use Rattle.listing.specs.Lawful.{cells-in-range, points-in-range, each, every, owns, stays, exists, is-lawful}
 use Rattle.listing.specs.Meaning.{Meaning, flow, size, procs, totals, statement-at}
 use Rattle.listing.specs.Procedures.{rets, ends-in-ret}
@@ -89,3 +89,7 @@ module _ (t : List ℕ) (yes-all : Answered t) where
 
 pub lawful : (t : List ℕ) → accepted t ≡ true → is-lawful (meaning-of t) ≡ true
 lawful t a = lawful-by t (answered-yes t a)
+
+pub few-points : (t : List ℕ) → miscounted t ≡ None → leb (length (flow-of t)) 1000 ≡ true
+unfolding miscounted
+few-points t h = ap (λ n. leb n 1000) (length-map (written t) controlled) ∙ and-parts _ _ (passed _ 0 h) .1

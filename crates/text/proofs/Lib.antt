@@ -4,3 +4,4 @@ pub mod Written
 pub mod Refusals
 pub mod Accepted
 pub mod Lawful
+pub mod Meant

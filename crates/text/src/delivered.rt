@@ -13,6 +13,8 @@ use crate::survey::MOST_LINES;
 
 mod lookups;
 
+pub(crate) use self::lookups::DeliveredDraft;
+
 #[derive(Clone, Copy)]
 pub(crate) struct Delivered<'a> {
     pub bytes: &'a [u8],

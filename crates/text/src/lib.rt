@@ -3,3 +3,4 @@ mod scan;
 mod cells;
 mod survey;
 mod delivered;
+pub mod text;

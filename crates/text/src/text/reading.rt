@@ -1,0 +1,43 @@
+// Reading: every question is put, and then a text that the caller holds is filled.
+ghost use mathlib.Core.Path.{_≡_};
+ghost use denote.Ref.{now};
+ghost use Rattle.std.specs.Results.{Cases};
+ghost use Rattle.listing.specs.Meaning.{totals};
+ghost use Rattle.text.specs.Reading.{on-line, meaning-of, refused, answered};
+use crate::delivered::Delivered;
+use crate::delivered::DeliveredDraft;
+use crate::survey::survey_of;
+use crate::text::Text;
+use crate::text::TextProgram;
+use draft::examine::examine;
+use draft::question::Breach;
+use draft::question::Refusal;
+use listing::counts::Counts;
+use listing::program::Program;
+
+// Point n is line n + 2.
+fn at_line(breach: Breach) -> Refusal
+    ensures { λ r. ⌜ r ≡ on-line breach ⌝ }
+{
+    Refusal { question: breach.question, place: breach.point.0 as usize + 2 }
+}
+
+impl<'a> Text<'a> {
+    // Reads a file: its counts, and this text is then that file's, or the first no, and this text is as it was.
+    pub fn read(&mut self, bytes: &'a [u8]) -> Result<Counts, Refusal>
+        ensures value { λ r. ⌜ r ≡ answered (refused (now (bytes .entry))) (totals (meaning-of (now (bytes .entry)))) ⌝ }
+        ensures fills { λ r. ⌜ Cases r (λ _. now (now (self .exit) .delivered .bytes) ≡ now (bytes .entry)) (λ _. now (self .exit) ≡ now (self .entry)) ⌝ }
+    {
+        let survey = survey_of(bytes)?;
+        let starts = survey.starts;
+        let delivered = Delivered { bytes, starts, points: survey.points, cells: survey.cells };
+        let procedures = match examine(&delivered) {
+            Ok(found) => found,
+            Err(breach) => return Err(at_line(breach)),
+        };
+        let text = Text { delivered, procedures };
+        let counts = text.counts();
+        *self = text;
+        Ok(counts)
+    }
+}
