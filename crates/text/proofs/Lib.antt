@@ -5,3 +5,4 @@ pub mod Refusals
 pub mod Accepted
 pub mod Lawful
 pub mod Meant
+pub mod Made

@@ -2,3 +2,4 @@ pub mod Lines
 pub mod Cells
 pub mod Reading
 pub mod Survey
+pub mod Cases

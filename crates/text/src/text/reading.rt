@@ -3,6 +3,9 @@ ghost use mathlib.Core.Path.{_≡_};
 ghost use denote.Ref.{now};
 ghost use Rattle.std.specs.Results.{Cases};
 ghost use Rattle.listing.specs.Meaning.{totals};
+ghost use mathlib.Core.List.{[], _∷_};
+ghost use lib.Chars.{codes};
+ghost use Rattle.text.specs.Cases.{listed};
 ghost use Rattle.text.specs.Reading.{on-line, meaning-of, refused, answered};
 use crate::delivered::Delivered;
 use crate::delivered::DeliveredDraft;
@@ -23,6 +26,18 @@ fn at_line(breach: Breach) -> Refusal
 }
 
 impl<'a> Text<'a> {
+    // The shortest listing: what a caller holds before the first reading.
+    pub fn shortest() -> Text<'static>
+        ensures { λ r. ⌜ now (r .delivered .bytes) ≡ listed (codes "cells 0 1" ∷ codes "ret l0" ∷ []) ⌝ }
+    {
+        let bytes = b"cells 0 1\nret l0\n";
+        let Ok(survey) = survey_of(bytes) else { unreachable() };
+        let starts = survey.starts;
+        let delivered = Delivered { bytes, starts, points: survey.points, cells: survey.cells };
+        let Ok(procedures) = examine(&delivered) else { unreachable() };
+        Text { delivered, procedures }
+    }
+
     // Reads a file: its counts, and this text is then that file's, or the first no, and this text is as it was.
     pub fn read(&mut self, bytes: &'a [u8]) -> Result<Counts, Refusal>
         ensures value { λ r. ⌜ r ≡ answered (refused (now (bytes .entry))) (totals (meaning-of (now (bytes .entry)))) ⌝ }
