@@ -46,7 +46,6 @@ class Statement:
         self.cells = [(word[:1], int(word[1:])) for kind, word in pairs if kind == "c"]
         self.points = [int(word) for kind, word in pairs if kind == "k"]
         self.callees = [int(word) for kind, word in pairs if kind == "p"]
-        self.procedure = None  # known once the statements are parted into procedures
 
 
 def parse_statement(line):
@@ -90,7 +89,8 @@ def outline(text):
 
     # 6. There is no 61st ret.
     exits = [n for n, s in enumerate(statements) if s.operation == b"ret"]
-    require(len(exits) <= 60, 6, exits[min(60, len(exits) - 1)] + 2)
+    for p, n in enumerate(exits):
+        require(p < 60, 6, n + 2)
 
     # 7. Every cell is one of the program's.
     size = {b"g": global_count, b"l": local_count}
@@ -100,14 +100,11 @@ def outline(text):
     # A procedure runs from just after the ret before it to its own ret.
     entries = [0] + [n + 1 for n in exits[:-1]]
     procedures = list(zip(entries, exits))
-    for p, (entry, exit_) in enumerate(procedures):
-        for s in statements[entry : exit_ + 1]:
-            s.procedure = p
 
     # 8. Each goto and test stays in its procedure.
-    for n, s in enumerate(statements):
-        entry, exit_ = procedures[s.procedure]
-        require(all(entry <= k <= exit_ for k in s.points), 8, n + 2)
+    for entry, exit_ in procedures:
+        for n in range(entry, exit_ + 1):
+            require(all(entry <= k <= exit_ for k in statements[n].points), 8, n + 2)
 
     # 9. Each called procedure exists.
     for n, s in enumerate(statements):

@@ -10,7 +10,8 @@ use Rattle.std.specs.Finite.{nth}
 use Rattle.std.specs.declared.option.Option.{Option}
 use Rattle.std.specs.declared.option.Option.the-variants.{Some, None}
 use Rattle.std.proofs.shelf.Lists.{at-drop-all}
-use Rattle.std.proofs.shelf.Tests.{cond-true, cond-false}
+use Rattle.std.proofs.shelf.Tests.{cond-true, cond-false, cases-bool}
+use mathlib.Core.Logic.{⊎-elim}
 use Rattle.draft.specs.Rules.{failing}
 
 pub none-parts : (b : Bool) (o : Option ℕ) (n : ℕ) → cond b o (Some n) ≡ None → (b ≡ true) × (o ≡ None)
@@ -67,3 +68,35 @@ module _ {A : Type 0} where
   passing test (y ∷ xs) n h (suc k) x e =
       let s : n + suc k ≡ n + 1 + k = omega arith in
       ap (λ m. test m x) s ∙ passing test xs (n + 1) (none-parts (test n y) (failing test (n + 1) xs) n h .1) k x e
+
+  -- the least element that fails: its place, that it fails, and that those before it pass
+  pub record Least (test : ℕ → A → Bool) (xs : List A) (n m : ℕ) : Type 0 where
+    pub index : ℕ
+    pub here : A
+    pub place : m ≡ n + index
+    pub stands : nth xs index ≡ Some here
+    pub fails : test m here ≡ false
+    pub before : (k : ℕ) (y : A) → k < index → nth xs k ≡ Some y → test (n + k) y ≡ true
+
+  least-first : (test : ℕ → A → Bool) (x : A) (xs : List A) (n m : ℕ) → test n x ≡ false → n ≡ m → Least test (x ∷ xs) n m
+  least-first test x xs n m f e =
+      record { index = 0; here = x; place = omega arith; stands = refl; fails = ap (λ k. test k x) (sym e) ∙ f; before = λ k y l s. absurd (omega arith) }
+
+  least-later : (test : ℕ → A → Bool) (x : A) (xs : List A) (n m : ℕ) → test n x ≡ true → Least test xs (n + 1) m → Least test (x ∷ xs) n m
+  least-later test x xs n m t r =
+      record { index = suc (r .index); here = r .here; place = omega (arith, r .place); stands = r .stands; fails = r .fails; before = earlier }
+    where
+      earlier : (k : ℕ) (y : A) → k < suc (r .index) → nth (x ∷ xs) k ≡ Some y → test (n + k) y ≡ true
+      earlier zero y l s = let same : x ≡ y = cc in let z : n + 0 ≡ n = omega arith in ap (λ k. test k y) z ∙ (ap (test n) (sym same) ∙ t)
+      earlier (suc k) y l s = let e : n + suc k ≡ n + 1 + k = omega arith in ap (λ k. test k y) e ∙ r .before k y (omega arith) s
+
+  pub failing-least : (test : ℕ → A → Bool) (xs : List A) (n m : ℕ) → failing test n xs ≡ Some m → Least test xs n m
+  failing-least test [] n m h = let z : _≡_ {A = ℕ} 0 1 = cc in absurd (omega arith)
+  failing-least test (x ∷ xs) n m h =
+      ⊎-elim
+      (λ t. least-later test x xs n m t (failing-least test xs (n + 1) m (sym (cond-true _ _ _ t) ∙ h)))
+      (λ f. least-first test x xs n m f (some-same (sym (cond-false _ _ _ f) ∙ h)))
+      (cases-bool (test n x))
+    where
+      some-same : {p q : ℕ} → Some p ≡ Some q → p ≡ q
+      some-same e = cc

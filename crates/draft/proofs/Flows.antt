@@ -72,3 +72,26 @@ ends-last (c ∷ []) = refl
 ends-last (c ∷ d ∷ cs) =
     let k : length (c ∷ d ∷ cs) - 1 ≡ suc (length (d ∷ cs) - 1) = omega arith in
     ends-last (d ∷ cs) ∙ ap (λ n. has-ret (nth (c ∷ d ∷ cs) n)) (sym k)
+
+-- the exit of a procedure is a `ret`, and stands in that procedure
+pub exit-ret : (cs : List Control) (p : ℕ) → p < rets cs → has-ret (nth cs (exit cs p)) ≡ true
+exit-ret [] p h = absurd (omega arith)
+exit-ret (c ∷ cs) p h = go (is-ret c) refl p h (exit-ret cs)
+  where
+    go : (b : Bool) → is-ret c ≡ b → (p : ℕ) → p < bump b (rets cs) → ((q : ℕ) → q < rets cs → has-ret (nth cs (exit cs q)) ≡ true) → has-ret (nth (c ∷ cs) (exit-by b (exit cs) p)) ≡ true
+    go true e zero h ih = e
+    go true e (suc p) h ih = ih p (omega arith)
+    go false e p h ih = ih p h
+
+pub exit-inside : (cs : List Control) (p : ℕ) → p < rets cs → procedure cs (exit cs p) ≡ p
+exit-inside [] p h = absurd (omega arith)
+exit-inside (c ∷ cs) p h = go (is-ret c) refl p h (exit-inside cs)
+  where
+    go : (b : Bool) → is-ret c ≡ b → (p : ℕ) → p < bump b (rets cs) → ((q : ℕ) → q < rets cs → procedure cs (exit cs q) ≡ q) → procedure (c ∷ cs) (exit-by b (exit cs) p) ≡ p
+    go true e zero h ih = refl
+    go true e (suc p) h ih = ap (λ b. bump b (procedure cs (exit cs p))) e ∙ ap suc (ih p (omega arith))
+    go false e p h ih = ap (λ b. bump b (procedure cs (exit cs p))) e ∙ ih p h
+
+-- a `ret` is one of those that are counted
+pub ret-counted : (cs : List Control) (n : ℕ) → has-ret (nth cs n) ≡ true → procedure cs n < rets cs
+ret-counted cs n r = omega (arith, procedure-le cs (n + 1), procedure-more cs n, ap (λ b. bump b (procedure cs n)) r)

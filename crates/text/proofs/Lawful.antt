@@ -25,11 +25,8 @@ use Rattle.grammar.specs.Grammar.{then}
 use Rattle.grammar.specs.declared.name.Name.{Name}
 use Rattle.text.specs.Reading.{kept, collect, counted, written, flow-of, renumbered, meaning-of, or-true, owned-of, unranged, miscounted, accepted}
 use Rattle.text.proofs.Written.{collect-nth, collect-length, nth-map}
+use Rattle.text.proofs.Refusals.{passed}
 use Rattle.text.proofs.Accepted.{Answered, answered-yes, numbered-keeps}
-
-passed : (b : Bool) (k : ℕ) → unless b k ≡ None → b ≡ true
-passed true k h = refl
-passed false k h = let z : _≡_ {A = ℕ} 0 1 = cc in absurd (omega arith)
 
 -- where nothing fails, the whole passes
 every-from : {A : Type 0} (test : ℕ → A → Bool) (xs : List A) (n : ℕ) → failing test n xs ≡ None → every test n xs ≡ true

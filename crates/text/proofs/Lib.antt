@@ -6,3 +6,4 @@ pub mod Accepted
 pub mod Lawful
 pub mod Meant
 pub mod Made
+pub mod Law

@@ -1,5 +1,6 @@
 -- The first no to a text, question by question.
-use mathlib.Core.Path.{_≡_, sym, ap, _∙_}
+use mathlib.Core.Path.{_≡_, refl, sym, ap, _∙_}
+use native.Mathlib.Omega.{arith}
 use mathlib.Core.Bool.{Bool, true, false}
 use mathlib.Core.List.{List}
 use Prim.Native.Nat.{ℕ}
@@ -19,6 +20,10 @@ unless-no b k e = cond-false _ _ _ e
 
 pub unless-yes : (b : Bool) (k : ℕ) → b ≡ true → unless b k ≡ None
 unless-yes b k e = cond-true _ _ _ e
+
+pub passed : (b : Bool) (k : ℕ) → unless b k ≡ None → b ≡ true
+passed true k h = refl
+passed false k h = let z : _≡_ {A = ℕ} 0 1 = cc in absurd (omega arith)
 
 abbrev after-length : List ℕ → Option Refusal
 after-length t = mapped on-line (breach (flow-of t) (owned-of t))

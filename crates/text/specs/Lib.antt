@@ -3,3 +3,4 @@ pub mod Cells
 pub mod Reading
 pub mod Survey
 pub mod Cases
+pub mod Law

@@ -5,6 +5,7 @@ ghost use Rattle.std.specs.Results.{Cases};
 ghost use Rattle.listing.specs.Meaning.{totals};
 ghost use mathlib.Core.List.{[], _∷_};
 ghost use lib.Chars.{codes};
+ghost use Rattle.text.specs.Law.{Reads-by-law};
 ghost use Rattle.text.specs.Cases.{listed};
 ghost use Rattle.text.specs.Reading.{on-line, meaning-of, refused, answered};
 use crate::delivered::Delivered;
@@ -40,6 +41,14 @@ impl<'a> Text<'a> {
 
     // Reads a file: its counts, and this text is then that file's, or the first no, and this text is as it was.
     pub fn read(&mut self, bytes: &'a [u8]) -> Result<Counts, Refusal>
+        ensures value { λ r. ⌜ r ≡ answered (refused (now (bytes .entry))) (totals (meaning-of (now (bytes .entry)))) ⌝ }
+        ensures law { λ r. ⌜ Reads-by-law (now (bytes .entry)) r ⌝ }
+        ensures fills { λ r. ⌜ Cases r (λ _. now (now (self .exit) .delivered .bytes) ≡ now (bytes .entry)) (λ _. now (self .exit) ≡ now (self .entry)) ⌝ }
+    {
+        self.fill(bytes)
+    }
+
+    fn fill(&mut self, bytes: &'a [u8]) -> Result<Counts, Refusal>
         ensures value { λ r. ⌜ r ≡ answered (refused (now (bytes .entry))) (totals (meaning-of (now (bytes .entry)))) ⌝ }
         ensures fills { λ r. ⌜ Cases r (λ _. now (now (self .exit) .delivered .bytes) ≡ now (bytes .entry)) (λ _. now (self .exit) ≡ now (self .entry)) ⌝ }
     {

@@ -1,10 +1,17 @@
-use Rattle.text.proofs.Made.{delivered-facts, text-facts}
+use mathlib.Core.Path.{sym, subst}
+use Rattle.std.specs.declared.result.Result.{Result}
+use Rattle.listing.specs.Meaning.{totals}
+use Rattle.listing.specs.declared.counts.Counts.{Counts}
+use Rattle.draft.specs.declared.question.Refusal.{Refusal}
+use Rattle.text.specs.Law.{Reads-by-law}
+use Rattle.text.specs.Reading.{meaning-of}
+use Rattle.text.proofs.Law.{by-law}
 use Rattle.text.proofs.text.Text.read.Needs as need
 
-pub ghost-delivered : need.ghost-delivered
-ghost-delivered c = delivered-facts (c .args .bytes .now) (c .in-Continue-survey .survey) (c .in-Continue-survey .ensures tt)
-
-pub ghost-text : need.ghost-text
-ghost-text c =
-    let d = c .in-Ok .ensures tt in
-    text-facts (c .args .bytes .now) (c .in-Continue-survey .survey) (c .in-Ok .found) (c .in-Continue-survey .ensures tt) (d .0) (d .1)
+pub returns : need.returns
+returns c =
+    let t = c .args .bytes .now in
+    record
+      { value = c .fill .ensures .value
+      ; law = subst (λ (r : Result Counts Refusal). Reads-by-law t r) (sym (c .fill .ensures .value)) (by-law t (totals (meaning-of t)))
+      ; fills = c .fill .ensures .fills }
