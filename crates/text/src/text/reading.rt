@@ -28,10 +28,10 @@ fn at_line(breach: Breach) -> Refusal
 
 impl<'a> Text<'a> {
     // The shortest listing: what a caller holds before the first reading.
-    pub fn shortest() -> Text<'static>
+    pub fn shortest() -> Text<'a>
         ensures { λ r. ⌜ now (r .delivered .bytes) ≡ listed (codes "cells 0 1" ∷ codes "ret l0" ∷ []) ⌝ }
     {
-        let bytes = b"cells 0 1\nret l0\n";
+        let bytes: &'a [u8] = b"cells 0 1\nret l0\n";
         let Ok(survey) = survey_of(bytes) else { unreachable() };
         let starts = survey.starts;
         let delivered = Delivered { bytes, starts, points: survey.points, cells: survey.cells };
