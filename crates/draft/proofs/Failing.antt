@@ -3,7 +3,6 @@ use mathlib.Core.Path.{_≡_, refl, sym, ap, _∙_}
 use mathlib.Core.Bool.{Bool, true, false, cond}
 use mathlib.Core.List.{List, [], _∷_}
 use Prim.Native.Nat.{ℕ, zero, suc, _+_, _<_, _≤_}
-use native.Mathlib.Numerals.{add-one}
 use native.Mathlib.Omega.{arith}
 use lib.ListN.{length, drop}
 use Rattle.std.specs.Finite.{nth}
@@ -12,6 +11,7 @@ use Rattle.std.specs.declared.option.Option.the-variants.{Some, None}
 use Rattle.std.proofs.shelf.Lists.{at-drop-all}
 use Rattle.std.proofs.shelf.Tests.{cond-true, cond-false, cases-bool}
 use mathlib.Core.Logic.{⊎-elim}
+use Rattle.listing.proofs.Lists.{drop-nth}
 use Rattle.draft.specs.Rules.{failing}
 
 pub none-parts : (b : Bool) (o : Option ℕ) (n : ℕ) → cond b o (Some n) ≡ None → (b ≡ true) × (o ≡ None)
@@ -19,25 +19,6 @@ none-parts true o n h = (refl, h)
 none-parts false o n h = let z : _≡_ {A = ℕ} 0 1 = cc in absurd (omega arith)
 
 module _ {A : Type 0} where
-  drops : (xs : List A) (n : ℕ) (x : A) → nth xs n ≡ Some x → drop n xs ≡ x ∷ drop (suc n) xs
-  drops [] n x e = let z : _≡_ {A = ℕ} 0 1 = cc in absurd (omega arith)
-  drops (y ∷ xs) zero x e = cc
-  drops (y ∷ xs) (suc n) x e = drops xs n x e
-
-  -- what stands at a place, and what is left after it
-  pub drop-nth : (xs : List A) (n : ℕ) (x : A) → nth xs n ≡ Some x → drop n xs ≡ x ∷ drop (n + 1) xs
-  drop-nth xs n x e = rw add-one (drops xs n x e)
-
-  pub nth-within : (xs : List A) (n : ℕ) (x : A) → nth xs n ≡ Some x → n < length xs
-  nth-within [] n x e = let z : _≡_ {A = ℕ} 0 1 = cc in absurd (omega arith)
-  nth-within (y ∷ xs) zero x e = omega arith
-  nth-within (y ∷ xs) (suc n) x e = omega (arith, nth-within xs n x e)
-
-  pub nth-none : (xs : List A) (n : ℕ) → nth xs n ≡ None → length xs ≤ n
-  nth-none [] n e = omega arith
-  nth-none (y ∷ xs) zero e = let z : _≡_ {A = ℕ} 0 1 = cc in absurd (omega arith)
-  nth-none (y ∷ xs) (suc n) e = omega (arith, nth-none xs n e)
-
   module _ (test : ℕ → A → Bool) (xs : List A) (n : ℕ) where
     pub failing-here : (x : A) → nth xs n ≡ Some x → test n x ≡ false → failing test n (drop n xs) ≡ Some n
     failing-here x e f = ap (failing test n) (drop-nth xs n x e) ∙ cond-false _ _ _ f

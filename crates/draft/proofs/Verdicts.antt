@@ -13,6 +13,7 @@ use Rattle.std.specs.declared.option.Option.the-variants.{Some, None}
 use Rattle.std.specs.declared.result.Result.the-variants.{Ok, Err}
 use Rattle.std.proofs.shelf.Tests.{cases-lt}
 use Rattle.std.proofs.shelf.Ways.{tells}
+use Rattle.listing.proofs.Lists.{nth-within}
 use mathlib.Core.Logic.{⊎-elim}
 use Rattle.listing.specs.declared.control.Control.{Control}
 use Rattle.listing.specs.declared.control.Control.the-variants.{Next, Goto, Test, Call, Ret}
@@ -25,7 +26,7 @@ use Rattle.draft.specs.declared.question.Question.the-variants as question
 use Rattle.draft.specs.declared.question.Breach.{Breach}
 use Rattle.draft.specs.Index.{Describes, beside}
 use Rattle.draft.specs.Rules.{failing, unended, crowded, foreign, astray, missing, breach, or-else, asked}
-use Rattle.draft.proofs.Failing.{failing-same, nth-within}
+use Rattle.draft.proofs.Failing.{failing-same}
 
 -- a question that was answered yes leaves the word to the next
 pub asked-yes : (q : Question) (no : Option Point) (o : Option ℕ) (later : Option Breach) → asked q no ≡ Ok tt → mapped (λ (n : Point). n .0) no ≡ o → or-else q o later ≡ later

@@ -11,6 +11,7 @@ use Rattle.std.specs.Options.{isSome, mapped}
 use Rattle.std.specs.declared.option.Option.{Option}
 use Rattle.std.specs.declared.option.Option.the-variants.{Some, None}
 use Rattle.std.proofs.shelf.Tests.{and-from, and-parts, not-true, lt-ltb, ltb-true, cond-true}
+use Rattle.listing.proofs.Lists.{nth-map}
 use Rattle.listing.specs.Lawful.{cells-in-range, points-in-range, each, every, owns, stays, exists, is-lawful}
 use Rattle.listing.specs.Meaning.{Meaning, below, flow, size, procs}
 use Rattle.listing.specs.Procedures.{rets, ends-in-ret}
@@ -30,7 +31,7 @@ use Rattle.grammar.specs.declared.name.Name.the-variants.{Global, Local}
 use Rattle.grammar.proofs.Prints.{mapped-some, pair-some}
 use Rattle.text.specs.Cells.{cell-of, two-of, numbered}
 use Rattle.text.specs.Reading.{kept, collect, counted, written, flow-of, renumbered, meaning-of, or-true, owned-of, outsized, misformed, unranged, miscounted, on-line, or-next, refused, accepted}
-use Rattle.text.proofs.Written.{collect-nth, collect-length, none-from, nth-map}
+use Rattle.text.proofs.Written.{collect-nth, collect-length, none-from}
 
 -- every question is answered yes
 pub record Answered (t : List ℕ) : Type 0 where

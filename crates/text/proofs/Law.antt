@@ -13,6 +13,7 @@ use Rattle.std.specs.declared.option.Option.{Option}
 use Rattle.std.specs.declared.option.Option.the-variants.{Some, None}
 use Rattle.std.proofs.shelf.Lists.{length-map}
 use Rattle.std.proofs.shelf.Tests.{cases-bool, cases-lt, cond-true, cond-false, eq-eqb, ne-eqb, eqb-true, not-from-true, not-from-false, and-from, and-parts, and-left, and-right, leb-true, leb-false}
+use Rattle.listing.proofs.Lists.{nth-map}
 use Rattle.listing.specs.Lawful.{points-in-range, stays, exists}
 use Rattle.listing.specs.Procedures.{rets, procedure, exit, ends-in-ret}
 use Rattle.listing.specs.Statements.{controlled, is-ret}
@@ -31,7 +32,7 @@ use Rattle.text.specs.Lines.{lines}
 use Rattle.text.specs.Reading.{counted, written, flow-of, renumbered, formed, or-true, owned-of, outsized, misformed, unranged, miscounted, on-line, or-next, refused, answered}
 use Rattle.text.specs.Law.{only-at, of-line, of-statement, few-before, holds, Yes, First-no, Reads-by-law}
 use Rattle.text.proofs.Refusals.{passed}
-use Rattle.text.proofs.Written.{written-length, nth-map}
+use Rattle.text.proofs.Written.{written-length}
 
 -- the question of a number
 abbrev question-of : ℕ → Question

@@ -12,6 +12,7 @@ use Rattle.std.specs.declared.option.Option.{Option}
 use Rattle.std.specs.declared.option.Option.the-variants.{Some, None}
 use Rattle.std.proofs.shelf.Lists.{length-map}
 use Rattle.std.proofs.shelf.Tests.{and-from, and-parts}
+use Rattle.listing.proofs.Lists.{nth-map}
 use Rattle.listing.specs.Lawful.{cells-in-range, points-in-range, each, every, owns, stays, exists, is-lawful}
 use Rattle.listing.specs.Meaning.{Meaning, flow, size, procs, totals, statement-at}
 use Rattle.listing.specs.Procedures.{rets, ends-in-ret}
@@ -24,7 +25,7 @@ use Rattle.draft.proofs.Failing.{passing, none-parts}
 use Rattle.grammar.specs.Grammar.{then}
 use Rattle.grammar.specs.declared.name.Name.{Name}
 use Rattle.text.specs.Reading.{kept, collect, counted, written, flow-of, renumbered, meaning-of, or-true, owned-of, unranged, miscounted, accepted}
-use Rattle.text.proofs.Written.{collect-nth, collect-length, nth-map}
+use Rattle.text.proofs.Written.{collect-nth, collect-length}
 use Rattle.text.proofs.Refusals.{passed}
 use Rattle.text.proofs.Accepted.{Answered, answered-yes, numbered-keeps}
 

@@ -8,11 +8,12 @@ use native.Mathlib.Numerals.{add-one}
 use lib.Dec.{eqb}
 use lib.ListN.{length, drop}
 use Rattle.std.specs.Finite.{nth}
-use Rattle.std.specs.Options.{isSome, mapped}
+use Rattle.std.specs.Options.{isSome}
 use Rattle.std.specs.declared.option.Option.{Option}
 use Rattle.std.specs.declared.option.Option.the-variants.{Some, None}
 use Rattle.std.proofs.shelf.Lists.{length-drop}
 use Rattle.std.proofs.shelf.Tests.{cond-true, cond-false, ne-eqb}
+use Rattle.listing.proofs.Lists.{nth-drop-one}
 use Rattle.draft.specs.Rules.{failing}
 use Rattle.draft.proofs.Failing.{passing}
 use Rattle.grammar.specs.Grammar.{then, statement}
@@ -38,10 +39,6 @@ module _ {A B : Type 0} (f : A → Option B) where
   collect-length [] h = refl
   collect-length (x ∷ xs) h = kept-length (f x) (collect f xs) (h 0 x refl) ∙ ap suc (collect-length xs (λ k. h (suc k)))
 
-nth-drop-one : {A : Type 0} (xs : List A) (n : ℕ) → nth (drop 1 xs) n ≡ nth xs (suc n)
-nth-drop-one [] n = refl
-nth-drop-one (x ∷ xs) n = refl
-
 module _ (t : List ℕ) (whole : misformed t ≡ None) where
   -- each line after the first says a statement
   says : (k : ℕ) (l : List ℕ) → nth (drop 1 (lines t)) k ≡ Some l → isSome (statement l) ≡ true
@@ -62,14 +59,3 @@ module _ (t : List ℕ) (whole : misformed t ≡ None) where
 pub none-from : {A : Type 0} (o : Option A) → isSome o ≡ false → o ≡ None
 none-from None e = refl
 none-from (Some x) e = let z : _≡_ {A = ℕ} 0 1 = cc in absurd (omega arith)
-
-pub nth-map : {A B : Type 0} (f : A → B) (xs : List A) (n : ℕ) → nth (map f xs) n ≡ mapped f (nth xs n)
-nth-map f [] n = refl
-nth-map f (x ∷ xs) zero = refl
-nth-map f (x ∷ xs) (suc n) = nth-map f xs n
-
-pub nth-front : {A : Type 0} (xs ys : List A) (n : ℕ) (x : A) → drop n xs ≡ x ∷ ys → nth xs n ≡ Some x
-nth-front [] ys zero x h = let z : _≡_ {A = ℕ} 0 1 = cc in absurd (omega arith)
-nth-front [] ys (suc n) x h = let z : _≡_ {A = ℕ} 0 1 = cc in absurd (omega arith)
-nth-front (a ∷ more) ys zero x h = cc
-nth-front (a ∷ more) ys (suc n) x h = nth-front more ys n x h

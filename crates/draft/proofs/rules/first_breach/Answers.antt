@@ -1,6 +1,7 @@
+use Rattle.listing.proofs.Lists.{nth-none}
 use mathlib.Core.Path.{_≡_, sym, _∙_}
 use native.Mathlib.Omega.{arith}
-use Rattle.draft.proofs.Failing.{failing-here, failing-more, failing-none, nth-none}
+use Rattle.draft.proofs.Failing.{failing-here, failing-more, failing-none}
 use Rattle.draft.proofs.rules.first_breach.Needs as need
 use Rattle.draft.proofs.rules.first_breach.Needs.{in-Some·else-not-keeps, in-rest}
 

@@ -5,12 +5,13 @@ use lib.ListN.{length, getD, drop}
 use Rattle.std.proofs.shelf.Lists.{length-map}
 use Rattle.std.proofs.shelf.Maps.{nth-past}
 use Rattle.std.proofs.shelf.Tests.{leb-true}
+use Rattle.listing.proofs.Lists.{nth-front}
 use Rattle.listing.specs.Statements.{controlled}
 use Rattle.grammar.specs.Grammar.{then, statement}
 use Rattle.text.specs.Lines.{lines, place}
 use Rattle.text.specs.Reading.{written, flow-of}
 use Rattle.text.proofs.Places.{place-lines, place-within}
-use Rattle.text.proofs.Written.{none-from, nth-front, written-nth, written-length}
+use Rattle.text.proofs.Written.{none-from, written-nth, written-length}
 use Rattle.text.proofs.delivered.Delivered.statement.Needs as need
 
 pub returns-then-n-self : need.returns-then-n-self

@@ -1,9 +1,9 @@
 use mathlib.Core.Path.{sym, ap, _∙_}
 use Rattle.std.specs.Options.{mapped}
 use Rattle.std.specs.declared.option.Option.the-variants.{Some}
+use Rattle.listing.proofs.Lists.{nth-map}
 use Rattle.listing.specs.Statements.{controlled}
 use Rattle.text.specs.Reading.{written}
-use Rattle.text.proofs.Written.{nth-map}
 use Rattle.text.proofs.delivered.lookups.DeliveredDraft.control.Needs as need
 
 pub returns-in-Some : need.returns-in-Some
