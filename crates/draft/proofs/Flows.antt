@@ -13,7 +13,7 @@ use Rattle.listing.specs.Statements.{is-ret}
 use Rattle.std.proofs.shelf.Lists.{take-all}
 use Rattle.std.proofs.shelf.Tests.{cond-true, cond-false, le-leb, lt-leb}
 use Rattle.draft.specs.Rules.{has-ret, crowded}
-use Rattle.listing.specs.Procedures.{bump, rets, procedure, exit, exit-by, ends-in-ret}
+use Rattle.listing.specs.Procedures.{bump, rets, procedure, entry, exit, exit-by, ends-in-ret}
 
 bump-bump : (a b : Bool) (n : ℕ) → bump a (bump b n) ≡ bump b (bump a n)
 bump-bump true true n = refl
@@ -95,3 +95,27 @@ exit-inside (c ∷ cs) p h = go (is-ret c) refl p h (exit-inside cs)
 -- a `ret` is one of those that are counted
 pub ret-counted : (cs : List Control) (n : ℕ) → has-ret (nth cs n) ≡ true → procedure cs n < rets cs
 ret-counted cs n r = omega (arith, procedure-le cs (n + 1), procedure-more cs n, ap (λ b. bump b (procedure cs n)) r)
+
+-- exits stand in order, within the program
+pub exit-within : (cs : List Control) (p : ℕ) → p < rets cs → exit cs p < length cs
+exit-within [] p h = absurd (omega arith)
+exit-within (c ∷ cs) p h = go (is-ret c) p h (exit-within cs)
+  where
+    go : (b : Bool) (p : ℕ) → p < bump b (rets cs) → ((q : ℕ) → q < rets cs → exit cs q < length cs) → exit-by b (exit cs) p < suc (length cs)
+    go true zero h ih = omega arith
+    go true (suc p) h ih = let r = ih p (omega arith) in omega arith
+    go false p h ih = let r = ih p h in omega arith
+
+exit-step : (cs : List Control) (p : ℕ) → suc p < rets cs → exit cs p < exit cs (suc p)
+exit-step [] p h = absurd (omega arith)
+exit-step (c ∷ cs) p h = go (is-ret c) p h (exit-step cs)
+  where
+    go : (b : Bool) (p : ℕ) → suc p < bump b (rets cs) → ((q : ℕ) → suc q < rets cs → exit cs q < exit cs (suc q)) → exit-by b (exit cs) p < exit-by b (exit cs) (suc p)
+    go true zero h ih = omega arith
+    go true (suc p) h ih = let r = ih p (omega arith) in omega arith
+    go false p h ih = let r = ih p h in omega arith
+
+-- a procedure begins no later than it ends
+pub entry-exit : (cs : List Control) (p : ℕ) → p < rets cs → entry cs p ≤ exit cs p
+entry-exit cs zero h = omega arith
+entry-exit cs (suc p) h = exit-step cs p h

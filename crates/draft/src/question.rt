@@ -1,7 +1,9 @@
 // The questions that are put to a delivered program, in their order.
 ghost use mathlib.Core.Path.{_≡_};
-ghost use Rattle.draft.specs.Questions.{number-of};
+ghost use Rattle.std.specs.declared.option.Option.the-variants.{Some};
+ghost use Rattle.draft.specs.Questions.{number-of, refusal-text};
 use listing::numbers::Point;
+use std::fmt;
 use listing::numbers::PointDebug;
 use listing::numbers::PointPartialEq;
 
@@ -51,6 +53,16 @@ impl Question {
 pub struct Refusal {
     pub question: Question,
     pub place: usize,
+}
+
+pub impl fmt::Display for Refusal as RefusalDisplay {
+    ghost shown = { λ r. Some (refusal-text r) };
+
+    fn fmt<W: fmt::Write>(&self, f: &mut fmt::Formatter<W>) -> fmt::Result {
+        let number = self.question.number();
+        let place = self.place;
+        write!(f, "refused {number} at {place}")
+    }
 }
 
 // A no to a question about statements, and the first point of which it is true.

@@ -1,0 +1,3 @@
+// What a contractor sees first: the counts and the procedures of a listing, or why it is refused.
+pub mod outline;
+mod section;
