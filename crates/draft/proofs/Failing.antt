@@ -36,7 +36,7 @@ module _ {A : Type 0} where
       let z : n + 0 ≡ n = omega arith in
       let here : f n x ≡ g n x = sym (ap (λ m. f m x) z) ∙ (h 0 x refl ∙ ap (λ m. g m x) z) in
       let rest : failing f (n + 1) xs ≡ failing g (n + 1) xs
-        = failing-same f g xs (n + 1) (λ k y e. let s : n + 1 + k ≡ n + suc k = omega arith in ap (λ m. f m y) s ∙ (h (suc k) y e ∙ sym (ap (λ m. g m y) s))) in
+      = failing-same f g xs (n + 1) (λ k y e. let s : n + 1 + k ≡ n + suc k = omega arith in ap (λ m. f m y) s ∙ (h (suc k) y e ∙ sym (ap (λ m. g m y) s))) in
       ap (λ b. cond b (failing f (n + 1) xs) (Some n)) here ∙ ap (λ o. cond (g n x) o (Some n)) rest
 
   -- where nothing fails, every element passes

@@ -2,13 +2,14 @@
 ghost use Prim.Native.Nat.{ℕ, _<_, _≤_};
 ghost use lib.ListN.{getD};
 
-mod lookups;
 mod indexing;
+mod lookups;
 
 pub(crate) use self::indexing::index;
 pub(crate) use self::indexing::is_ret;
 
 pub const MOST_POINTS: usize = 1000;
+
 pub const MOST_PROCEDURES: usize = 60;
 
 #[derive(Clone, Copy)]

@@ -3,9 +3,9 @@ ghost use mathlib.Core.Path.{_≡_};
 ghost use Rattle.std.specs.declared.option.Option.the-variants.{Some};
 ghost use Rattle.draft.specs.Questions.{number-of, refusal-text};
 use listing::numbers::Point;
-use std::fmt;
 use listing::numbers::PointDebug;
 use listing::numbers::PointPartialEq;
+use std::fmt;
 
 #[derive(Clone, Copy, PartialEq, Eq, Debug)]
 pub enum Question {

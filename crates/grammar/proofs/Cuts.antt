@@ -45,6 +45,7 @@ pub name-none : (w : List ℕ) → 0 < length w → None ≡ number (take (lengt
 name-none [] l h = absurd (omega arith)
 name-none (c ∷ w) l h =
     let e : None ≡ number w = h ∙ ap number (take-rest (c ∷ w) 1) in
-    elim (eqb c 103) as (λ s. None ≡ cond s (mapped Global (number w)) (cond (eqb c 108) (mapped Local (number w)) None))
-    [ true ↦ ap (mapped Global) e
-    | false ↦ elim (eqb c 108) as (λ s. None ≡ cond s (mapped Local (number w)) None) [ true ↦ ap (mapped Local) e | false ↦ refl ] ]
+    elim (eqb c 103) as (λ s. None ≡ cond s (mapped Global (number w)) (cond (eqb c 108) (mapped Local (number w)) None)) [
+      | true ↦ ap (mapped Global) e
+      | false ↦ elim (eqb c 108) as (λ s. None ≡ cond s (mapped Local (number w)) None) [ true ↦ ap (mapped Local) e | false ↦ refl ]
+    ]

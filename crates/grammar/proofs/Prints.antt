@@ -69,9 +69,9 @@ number-reads n h =
     let one : 0 < length (decimal n) = decimal-some n (omega arith) in
     let four : length (decimal n) ≤ 4 = length-decimal-le 4 n (omega arith) (omega arith) (omega arith) in
     let ok : short (decimal n) ≡ true = ⊎-elim
-      (λ z. let e : n ≡ 0 = omega arith in ap short (ap decimal e ∙ decimal-digit 0 (omega arith)))
-      (λ p. let first : 48 < getD (decimal n) 0 0 = first-decimal n (omega arith) (omega arith) in grind (arith, tells))
-      (cases-lt n 1) in
+    (λ z. let e : n ≡ 0 = omega arith in ap short (ap decimal e ∙ decimal-digit 0 (omega arith)))
+    (λ p. let first : 48 < getD (decimal n) 0 0 = first-decimal n (omega arith) (omega arith) in grind (arith, tells))
+    (cases-lt n 1) in
     cond-true _ _ _ ok ∙ (value-is 0 (decimal n) ∙ (cond-true _ _ _ ds ∙ ap Some v))
 
 pub number-spells : Spells number decimal (λ n. n < 10000)
@@ -97,7 +97,7 @@ name-prints (c ∷ w) x h =
     ⊎-elim
     (λ g. from-letter Global 103 (λ n. refl) (λ n s. s) c w x (eqb-true c 103 g) (sym (cond-true _ _ _ g) ∙ h))
     (λ g. let q = given-some (eqb c 108) (mapped Local (number w)) x (sym (cond-false _ _ _ g) ∙ h) in
-      from-letter Local 108 (λ n. refl) (λ n s. s) c w x (eqb-true c 108 (q .0)) (q .1))
+    from-letter Local 108 (λ n. refl) (λ n s. s) c w x (eqb-true c 108 (q .0)) (q .1))
     (cases-bool (eqb c 103))
 
 name-reads : (x : Name) → Small-name x → name (name-spelt x) ≡ Some x

@@ -200,9 +200,9 @@ line-body b =
     ∙ ap Some (ap (λ i. take i (b ++ (10 ∷ []))) k ∙ take-at b (10 ∷ []) (length b) refl)
 
 module _ {A : Type 0} (read : List (List ℕ) → Option A) (print : A → List (List ℕ)) (Fit : A → Type 0)
-  (prints : (ws : List (List ℕ)) (x : A) → read ws ≡ Some x → (ws ≡ print x) × Fit x)
-  (reads : (x : A) → Fit x → read (print x) ≡ Some x)
-  (words-print : (x : A) → Fit x → words (spaced (print x)) ≡ print x) where
+    (prints : (ws : List (List ℕ)) (x : A) → read ws ≡ Some x → (ws ≡ print x) × Fit x)
+    (reads : (x : A) → Fit x → read (print x) ≡ Some x)
+    (words-print : (x : A) → Fit x → words (spaced (print x)) ≡ print x) where
   by-body : (line : List ℕ) (o : Option (List ℕ)) → body line ≡ o → (x : A) → then o (λ b. read (words b)) ≡ Some x → (line ≡ line-of (print x)) × Fit x
   by-body line None e x h = let z : _≡_ {A = ℕ} 0 1 = cc in absurd (omega arith)
   by-body line (Some b) e x h =
@@ -212,9 +212,10 @@ module _ {A : Type 0} (read : List (List ℕ) → Option A) (print : A → List 
   -- what words spell, a line spells
   pub read-as : (line : List ℕ) (r : Option A) → r ≡ then (body line) (λ b. read (words b)) → Read-as (λ x. line-of (print x)) Fit line r
   read-as line r e =
-      record
-        { only = λ x h. by-body line (body line) refl x (sym e ∙ h)
-        ; all = λ x f l. e ∙ (ap (λ o. then o (λ b. read (words b))) (ap body l ∙ line-body (spaced (print x))) ∙ (ap read (words-print x f) ∙ reads x f)) }
+      record {
+        only = λ x h. by-body line (body line) refl x (sym e ∙ h);
+        all = λ x f l. e ∙ (ap (λ o. then o (λ b. read (words b))) (ap body l ∙ line-body (spaced (print x))) ∙ (ap read (words-print x f) ∙ reads x f));
+      }
 
 pub statement-spelt : (line : List ℕ) (r : Option (Statement Name)) → r ≡ statement line → Statement-spelt line r
 statement-spelt = read-as spelled words-of Small spelled-prints spelled-reads words-spelt

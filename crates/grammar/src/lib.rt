@@ -1,6 +1,6 @@
 // The text of one line: a parser, and the law that it reads exactly what a printer writes.
-pub mod name;
-pub mod line;
-mod words;
 mod cursor;
+pub mod line;
+pub mod name;
 mod parse;
+mod words;

@@ -44,7 +44,10 @@ fn header_in(words: &[u8]) -> Option<Header>
         return None;
     }
     let (word, rest) = rest.cut()?;
-    Some(Header { globals: number_of(word)?, locals: rest.number()? })
+    Some(Header {
+        globals: number_of(word)?,
+        locals: rest.number()?,
+    })
 }
 
 // The statement that a line spells.

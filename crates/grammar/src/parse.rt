@@ -30,7 +30,12 @@ impl<'a> Words<'a> {
         let n = space(line);
         let word = &line[0..n];
         if n < line.len() {
-            Some((word, Words { rest: Some(&line[n + 1..]) }))
+            Some((
+                word,
+                Words {
+                    rest: Some(&line[n + 1..]),
+                },
+            ))
         } else {
             Some((word, Words { rest: None }))
         }
@@ -159,14 +164,23 @@ pub(crate) fn with_operands(op: Op, rest: Words) -> Option<Statement<Name>>
         }
         Op::Read => Some(Statement::Read { to: rest.name()? }),
         Op::Send => Some(Statement::Send { from: rest.name()? }),
-        Op::Goto => Some(Statement::Goto { target: Point(rest.number()?) }),
+        Op::Goto => Some(Statement::Goto {
+            target: Point(rest.number()?),
+        }),
         Op::Test => {
             let (from, k) = rest.name_number()?;
-            Some(Statement::Test { from, target: Point(k) })
+            Some(Statement::Test {
+                from,
+                target: Point(k),
+            })
         }
         Op::Call => {
             let (to, (p, argument)) = rest.name_number_name()?;
-            Some(Statement::Call { to, callee: Proc(p), argument })
+            Some(Statement::Call {
+                to,
+                callee: Proc(p),
+                argument,
+            })
         }
         Op::Ret => Some(Statement::Ret { from: rest.name()? }),
         Op::Trim => {

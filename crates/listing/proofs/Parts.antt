@@ -30,14 +30,15 @@ parts m e =
     let cells = and-parts _ _ (a .0) in
     let locals = and-parts _ _ (cells .1) in
     let points = and-parts _ _ (b .0) in
-    record
-      { few-globals = leb-true _ _ (cells .0)
-      ; some-locals = leb-true _ _ (locals .0)
-      ; few-locals = leb-true _ _ (locals .1)
-      ; some-points = leb-true _ _ (points .0)
-      ; few-points = leb-true _ _ (points .1)
-      ; end = c .0
-      ; few-procedures = leb-true _ _ (d .0)
-      ; cells = f .0
-      ; jumps = g .0
-      ; callees = g .1 }
+    record {
+      few-globals = leb-true _ _ (cells .0);
+      some-locals = leb-true _ _ (locals .0);
+      few-locals = leb-true _ _ (locals .1);
+      some-points = leb-true _ _ (points .0);
+      few-points = leb-true _ _ (points .1);
+      end = c .0;
+      few-procedures = leb-true _ _ (d .0);
+      cells = f .0;
+      jumps = g .0;
+      callees = g .1;
+    }

@@ -2,12 +2,12 @@
 ghost use mathlib.Core.Path.{_≡_};
 ghost use Rattle.listing.specs.Statements.{controlled};
 use crate::numbers::Point;
-use crate::numbers::Proc;
-use crate::statement::Statement;
 use crate::numbers::PointDebug;
 use crate::numbers::PointPartialEq;
+use crate::numbers::Proc;
 use crate::numbers::ProcDebug;
 use crate::numbers::ProcPartialEq;
+use crate::statement::Statement;
 
 #[derive(Clone, Copy, PartialEq, Eq, Debug)]
 pub enum Control {

@@ -1,8 +1,8 @@
 // The ten statements.
 use crate::numbers::Point;
-use crate::numbers::Proc;
 use crate::numbers::PointDebug;
 use crate::numbers::PointPartialEq;
+use crate::numbers::Proc;
 use crate::numbers::ProcDebug;
 use crate::numbers::ProcPartialEq;
 

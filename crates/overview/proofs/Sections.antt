@@ -13,11 +13,6 @@ use Rattle.listing.specs.Procedures.{bump, entry, exit}
 use Rattle.listing.specs.Statements.{controlled}
 use Rattle.listing.specs.declared.numbers.Point.{Point}
 use Rattle.listing.specs.declared.numbers.Proc.{Proc}
-use Rattle.draft.specs.declared.question.Refusal.{Refusal}
-use Rattle.text.specs.Reading.{meaning-of, refused, answered, reading}
-use Rattle.std.specs.declared.option.Option.{Option}
-use Rattle.std.specs.declared.result.Result.the-variants.{Ok, Err}
-use mathlib.Core.List.{List}
 use Rattle.draft.proofs.Flows.{exit-within, entry-exit}
 use Rattle.overview.specs.Outlined.{calls-at, calls-from}
 
@@ -43,18 +38,3 @@ module _ (m : Meaning) (p : Proc) (l : p .0 < procs m) where
 -- one point more
 pub calls-more : (m : Meaning) (n end : ℕ) → n < end → calls-from m n (end - n) ≡ bump (calls-at (nth (m .statements) n)) (calls-from m (n + 1) (end - (n + 1)))
 calls-more m n end l = let k : end - n ≡ suc (end - (n + 1)) = omega arith in ap (calls-from m n) k
-
--- what was read was not refused, and what was refused is told
-pub told-ok : {A : Type 0} (t : List ℕ) (x y : A) → Ok y ≡ answered (refused t) x → reading t ≡ Ok (meaning-of t)
-told-ok t x y e = go (refused t) e
-  where
-    go : (o : Option Refusal) → Ok y ≡ answered o x → answered o (meaning-of t) ≡ Ok (meaning-of t)
-    go None h = refl
-    go (Some r) h = let z : _≡_ {A = ℕ} 0 1 = cc in absurd (omega arith)
-
-pub told-err : {A : Type 0} (t : List ℕ) (x : A) (r : Refusal) → Err r ≡ answered (refused t) x → reading t ≡ Err r
-told-err t x r e = go (refused t) e
-  where
-    go : (o : Option Refusal) → Err r ≡ answered o x → answered o (meaning-of t) ≡ Err r
-    go None h = let z : _≡_ {A = ℕ} 0 1 = cc in absurd (omega arith)
-    go (Some q) h = let same : q ≡ r = cc in ap Err same

@@ -42,15 +42,16 @@ calls-from m n (suc k) = bump (calls-at (nth (m .statements) n)) (calls-from m (
 -- what is told of procedure p: its entry, its exit, and how many statements and calls it has
 abbrev pub section : Meaning → ℕ → Section
 section m p =
-    record
-      { number = p
-      ; entry = entry (flow m) p
-      ; exit = exit (flow m) p
-      ; statements = exit (flow m) p + 1 - entry (flow m) p
-      ; calls = calls-from m (entry (flow m) p) (exit (flow m) p + 1 - entry (flow m) p) }
+    record {
+      number = p;
+      entry = entry (flow m) p;
+      exit = exit (flow m) p;
+      statements = exit (flow m) p + 1 - entry (flow m) p;
+      calls = calls-from m (entry (flow m) p) (exit (flow m) p + 1 - entry (flow m) p);
+    }
 
 -- `procedure p entry E exit X statements S calls C`
-unfoldable pub section-text : Section → List ℕ
+abbrev pub section-text : Section → List ℕ
 section-text s =
     codes "procedure " ++ (decimal (s .number)
     ++ (codes " entry " ++ (decimal (s .entry)
@@ -64,7 +65,7 @@ sections m zero = []
 sections m (suc p) = sections m p ++ (section-text (section m p) ++ (10 ∷ []))
 
 -- `globals G locals L statements N procedures P`
-unfoldable pub heading-text : Counts → List ℕ
+abbrev pub heading-text : Counts → List ℕ
 heading-text c =
     codes "globals " ++ (decimal (c .globals)
     ++ (codes " locals " ++ (decimal (c .locals)

@@ -31,7 +31,10 @@ pub(crate) impl fmt::Display for Heading as HeadingDisplay {
         let locals = self.counts.locals;
         let points = self.counts.points;
         let procedures = self.counts.procedures;
-        write!(f, "globals {globals} locals {locals} statements {points} procedures {procedures}")
+        write!(
+            f,
+            "globals {globals} locals {locals} statements {points} procedures {procedures}"
+        )
     }
 }
 
@@ -39,7 +42,9 @@ pub(crate) impl fmt::Display for Heading as HeadingDisplay {
 fn description<P: Program>(heap: Global, program: &P) -> Result<String, AllocError>
     ensures { λ r. ⌜ made r (λ s. string-bytes s ≡ described (meaning (now (program .entry)))) ⌝ }
 {
-    let heading = Heading { counts: program.counts() };
+    let heading = Heading {
+        counts: program.counts(),
+    };
     let mut out = format!(heap, "{heading}\n")?;
     for p in 0..heading.counts.procedures {
         let section = section_of(program, Proc(p));

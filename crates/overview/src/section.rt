@@ -30,7 +30,10 @@ pub(crate) impl fmt::Display for Section as SectionDisplay {
         let exit = self.exit;
         let statements = self.statements;
         let calls = self.calls;
-        write!(f, "procedure {number} entry {entry} exit {exit} statements {statements} calls {calls}")
+        write!(
+            f,
+            "procedure {number} entry {entry} exit {exit} statements {statements} calls {calls}"
+        )
     }
 }
 
@@ -62,7 +65,15 @@ pub(crate) fn section_of<P: Program>(program: &P, p: Proc) -> Section
     requires { ⌜ p .0 < procs (meaning (now program)) ⌝ }
     ensures { λ r. ⌜ r ≡ section (meaning (now (program .entry))) (p .0) ⌝ }
 {
-    let (Some(entry), Some(exit)) = (program.entry(p), program.exit(p)) else { unreachable() };
+    let (Some(entry), Some(exit)) = (program.entry(p), program.exit(p)) else {
+        unreachable()
+    };
     let calls = count_calls(program, entry, exit);
-    Section { number: p.0, entry: entry.0, exit: exit.0, statements: exit.0 + 1 - entry.0, calls }
+    Section {
+        number: p.0,
+        entry: entry.0,
+        exit: exit.0,
+        statements: exit.0 + 1 - entry.0,
+        calls,
+    }
 }

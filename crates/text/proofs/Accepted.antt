@@ -91,7 +91,7 @@ module _ (g l : ℕ) where
   Kept-by s y = (controlled y ≡ controlled s) × (owns (g + l) y ≡ true)
 
   one-kept : (make : Cell → Statement Cell) (s : Statement Name) → ((c : Cell) → controlled (make c) ≡ controlled s) → ((c : Cell) → cells-of (make c) ≡ c ∷ [])
-    → (x : Name) (y : Statement Cell) → mapped make (cell-of g l x) ≡ Some y → Kept-by s y
+      → (x : Name) (y : Statement Cell) → mapped make (cell-of g l x) ≡ Some y → Kept-by s y
   one-kept make s same names x y h =
       let m = mapped-some make (cell-of g l x) y h in
       subst (λ (z : Statement Cell). Kept-by s z) (m .2)
@@ -101,7 +101,7 @@ module _ (g l : ℕ) where
   two-own x y q h = let p = pair-some (cell-of g l x) (cell-of g l y) q h in (own-cell x (q .0) (p .0), own-cell y (q .1) (p .1))
 
   two-kept : (make : Cell × Cell → Statement Cell) (s : Statement Name) → ((q : Cell × Cell) → controlled (make q) ≡ controlled s) → ((q : Cell × Cell) → cells-of (make q) ≡ q .0 ∷ q .1 ∷ [])
-    → (u v : Name) (y : Statement Cell) → mapped make (two-of g l u v) ≡ Some y → Kept-by s y
+      → (u v : Name) (y : Statement Cell) → mapped make (two-of g l u v) ≡ Some y → Kept-by s y
   two-kept make s same names u v y h =
       let m = mapped-some make (two-of g l u v) y h in
       let o = two-own u v (m .0) (m .1) in

@@ -137,9 +137,10 @@ module _ (t : List ℕ) where
   form-no m h =
       let r = failing-least formed (lines t) 1 m h in
       let i : m ≡ suc (r .index) = omega (arith, r .place) in
-      record
-        { fails = ap (of-line formed (lines t)) i ∙ (ap (or-true (formed (suc (r .index)))) (r .stands) ∙ (ap (λ k. formed k (r .here)) (sym i) ∙ r .fails))
-        ; least = λ j l. before r j (omega (arith, r .place)) }
+      record {
+        fails = ap (of-line formed (lines t)) i ∙ (ap (or-true (formed (suc (r .index)))) (r .stands) ∙ (ap (λ k. formed k (r .here)) (sym i) ∙ r .fails));
+        least = λ j l. before r j (omega (arith, r .place));
+      }
     where
       before : (r : Least formed (lines t) 1 m) (j : ℕ) → j < suc (r .index) → of-line formed (lines t) j ≡ true
       before r zero l = refl
@@ -165,9 +166,10 @@ module _ (t : List ℕ) where
   end-no w s m h =
       let p = only-parts (length (flow-of t) - 1) (ends-in-ret (flow-of t)) (ends-in-ret (flow-of t)) m h in
       let k : m + 2 ≡ length (lines t) = omega (arith, p .1, end-place w s) in
-      record
-        { fails = cond-true _ _ _ (eq-eqb (m + 2) (length (lines t)) k) ∙ p .0
-        ; least = λ j l. cond-false _ _ _ (ne-eqb j (length (lines t)) (λ e. omega arith)) }
+      record {
+        fails = cond-true _ _ _ (eq-eqb (m + 2) (length (lines t)) k) ∙ p .0;
+        least = λ j l. cond-false _ _ _ (ne-eqb j (length (lines t)) (λ e. omega arith));
+      }
 
   -- the 61st `ret`
   few-passes : (n : ℕ) (c : Control) → nth (flow-of t) n ≡ Some c → (is-ret c ≡ true → procedure (flow-of t) n ≡ 60 → ⊥) → few-before (flow-of t) n c ≡ true
@@ -183,8 +185,8 @@ module _ (t : List ℕ) where
   procedures-yes h =
       of-yes (few-before (flow-of t)) (flow-of t)
       (λ n c e. few-passes n c e
-        (λ r p. let few : rets (flow-of t) ≤ 60 = leb-true (rets (flow-of t)) 60 (passed (leb (rets (flow-of t)) 60) (exit (flow-of t) 60) h) in
-          omega (arith, ret-counted (flow-of t) n (ap has-ret e ∙ r), p)))
+      (λ r p. let few : rets (flow-of t) ≤ 60 = leb-true (rets (flow-of t)) 60 (passed (leb (rets (flow-of t)) 60) (exit (flow-of t) 60) h) in
+      omega (arith, ret-counted (flow-of t) n (ap has-ret e ∙ r), p)))
 
   some-ret : (o : Option Control) → has-ret o ≡ true → (c : Control) × (o ≡ Some c) × (is-ret c ≡ true)
   some-ret None h = let z : _≡_ {A = ℕ} 0 1 = cc in absurd (omega arith)
@@ -199,10 +201,11 @@ module _ (t : List ℕ) where
       let there : exit (flow-of t) 60 ≡ m = p .1 in
       let c = some-ret (nth cs m) (ap (λ n. has-ret (nth cs n)) (sym there) ∙ exit-ret cs 60 many) in
       let home : procedure (flow-of t) m ≡ 60 = ap (procedure cs) (sym there) ∙ exit-inside cs 60 many in
-      record
-        { fails = of-fails (few-before cs) cs m (c .0) (c .1) (not-from-true _ (and-from _ _ (c .2) (eq-eqb (procedure cs m) 60 home)))
-        ; least = of-least (few-before cs) cs m
-            (λ n d l e. few-passes n d e (λ r q. omega (arith, l, there, sym (ap (exit cs) q) ∙ exit-here cs n (ap has-ret e ∙ r)))) }
+      record {
+        fails = of-fails (few-before cs) cs m (c .0) (c .1) (not-from-true _ (and-from _ _ (c .2) (eq-eqb (procedure cs m) 60 home)));
+        least = of-least (few-before cs) cs m
+            (λ n d l e. few-passes n d e (λ r q. omega (arith, l, there, sym (ap (exit cs) q) ∙ exit-here cs n (ap has-ret e ∙ r))));
+      }
 
   -- foreign cells: of the statements as they are written
   owned-at : (n : ℕ) (s : Statement Name) → nth (written t) n ≡ Some s → owned-of t n ≡ isSome (renumbered t s)
@@ -213,8 +216,8 @@ module _ (t : List ℕ) where
   cells-yes h =
       of-yes (λ n s. isSome (renumbered t s)) (written t)
       (λ n s e.
-        let z : 0 + n ≡ n = omega arith in
-        sym (owned-at n s e) ∙ (sym (ap (owned-of t) z) ∙ passing (λ k c. owned-of t k) (flow-of t) 0 h n (controlled s) (nth-map controlled (written t) n ∙ ap (mapped controlled) e)))
+      let z : 0 + n ≡ n = omega arith in
+      sym (owned-at n s e) ∙ (sym (ap (owned-of t) z) ∙ passing (λ k c. owned-of t k) (flow-of t) 0 h n (controlled s) (nth-map controlled (written t) n ∙ ap (mapped controlled) e)))
 
   written-some : (n : ℕ) (c : Control) (o : Option (Statement Name)) → nth (written t) n ≡ o → mapped controlled o ≡ Some c → (s : Statement Name) × (nth (written t) n ≡ Some s)
   written-some n c None e h = let z : _≡_ {A = ℕ} 0 1 = cc in absurd (omega arith)
@@ -226,13 +229,14 @@ module _ (t : List ℕ) where
       let r = failing-least (λ k c. owned-of t k) (flow-of t) 0 m h in
       let i : m ≡ r .index = omega (arith, r .place) in
       let w = written-some m (r .here) (nth (written t) m) refl (sym (nth-map controlled (written t) m) ∙ (ap (nth (flow-of t)) i ∙ r .stands)) in
-      record
-        { fails = of-fails (λ n s. isSome (renumbered t s)) (written t) m (w .0) (w .1) (sym (owned-at m (w .0) (w .1)) ∙ r .fails)
-        ; least = of-least (λ n s. isSome (renumbered t s)) (written t) m
+      record {
+        fails = of-fails (λ n s. isSome (renumbered t s)) (written t) m (w .0) (w .1) (sym (owned-at m (w .0) (w .1)) ∙ r .fails);
+        least = of-least (λ n s. isSome (renumbered t s)) (written t) m
             (λ n s l e.
-              let z : 0 + n ≡ n = omega arith in
-              sym (owned-at n s e)
-              ∙ (sym (ap (owned-of t) z) ∙ r .before n (controlled s) (omega (arith, r .place)) (nth-map controlled (written t) n ∙ ap (mapped controlled) e))) }
+            let z : 0 + n ≡ n = omega arith in
+            sym (owned-at n s e)
+            ∙ (sym (ap (owned-of t) z) ∙ r .before n (controlled s) (omega (arith, r .place)) (nth-map controlled (written t) n ∙ ap (mapped controlled) e)));
+      }
 
   -- every question before number k is answered yes
   abbrev Before : ℕ → Type 0
@@ -255,13 +259,13 @@ module _ (t : List ℕ) where
 
   -- one question about the text, and what comes after it
   next-law : (q : Question) (o : Option ℕ) (later : Option Refusal) → Before (number-of q) → (o ≡ None → Yes t q) → ((j : ℕ) → o ≡ Some j → No-at t q j)
-    → (o ≡ None → Before (number-of q + 1) → Outcome later) → Outcome (or-next q o later)
+      → (o ≡ None → Before (number-of q + 1) → Outcome later) → Outcome (or-next q o later)
   next-law q None later b y n go = go refl (one-more q b (y refl))
   next-law q (Some j) later b y n go = refusal q j b (n j refl)
 
   -- one question about statements, and what comes after it
   else-law : (q : Question) (o : Option ℕ) (later : Option Breach) → Before (number-of q) → (o ≡ None → Yes t q) → ((m : ℕ) → o ≡ Some m → No-at t q (m + 2))
-    → (Before (number-of q + 1) → Outcome (mapped on-line later)) → Outcome (mapped on-line (or-else q o later))
+      → (Before (number-of q + 1) → Outcome (mapped on-line later)) → Outcome (mapped on-line (or-else q o later))
   else-law q None later b y n go = go (one-more q b (y refl))
   else-law q (Some m) later b y n go = refusal q (m + 2) b (n m refl)
 

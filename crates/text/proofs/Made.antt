@@ -52,15 +52,3 @@ pub text-facts : (t : List ℕ) (s : Survey) (ps : Procedures) → Surveyed t s 
 text-facts t s ps f d b =
     let all : accepted t ≡ true = ap (λ o. not (isSome o)) (past-four t (f .sized) (f .whole) (f .ranged) (f .short) ∙ ap (mapped on-line) b) in
     (all, (lawful t all, (d .points, (d .count, (d .homes, (d .exits, tt))))))
-
-abbrev pub briefest : List ℕ
-briefest = listed (codes "cells 0 1" ∷ codes "ret l0" ∷ [])
-
--- the shortest listing is not refused
-pub briefest-refused : (r : Refusal) → refused briefest ≡ Some r → ⊥
-unfolding outsized misformed counted written unranged miscounted unended crowded foreign astray missing
-briefest-refused r h = let z : _≡_ {A = ℕ} 0 1 = cc in omega arith
-
-pub briefest-breach : (b : Breach) → breach (flow-of briefest) (owned-of briefest) ≡ Some b → ⊥
-unfolding counted written unended crowded foreign astray missing
-briefest-breach b h = let z : _≡_ {A = ℕ} 0 1 = cc in omega arith

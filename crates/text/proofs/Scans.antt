@@ -32,10 +32,15 @@ ending-line [] k e h = let z : _≡_ {A = ℕ} 0 1 = cc in absurd (omega arith)
 ending-line (b ∷ bs) k e h =
     ⊎-elim
     (λ t. let q : k + 1 ≡ e = some-same (sym (cond-true _ _ _ t) ∙ h) in
-      record { size = 1; ends = sym q; some = omega arith; within = omega arith; cuts = cond-true _ _ _ t })
+    record { size = 1; ends = sym q; some = omega arith; within = omega arith; cuts = cond-true _ _ _ t })
     (λ f. let r : Line bs (k + 1) e = ending-line bs (k + 1) e (sym (cond-false _ _ _ f) ∙ h) in
-      record { size = suc (r .size); ends = omega (arith, r .ends); some = omega arith; within = omega (arith, r .within)
-             ; cuts = cond-false _ _ _ f ∙ ap (longer b) (r .cuts) })
+    record {
+      size = suc (r .size);
+      ends = omega (arith, r .ends);
+      some = omega arith;
+      within = omega (arith, r .within);
+      cuts = cond-false _ _ _ f ∙ ap (longer b) (r .cuts);
+    })
     (cases-bool (eqb b 10))
   where
     some-same : {x y : ℕ} → Some x ≡ Some y → x ≡ y
@@ -65,10 +70,11 @@ line-size : (bs : List ℕ) (at n : ℕ) → at ≤ length bs → n ≤ length (
 line-size bs at n a l s c =
     let long : length (take n (drop at bs)) ≡ n = length-take-le n (drop at bs) l in
     let rest : length (drop at bs) ≡ length bs - at = length-drop at bs in
-    record
-      { some = omega arith
-      ; fits = omega arith
-      ; cuts = c ∙ ap (λ d. take n (drop at bs) ∷ lines d) (drop-drop n at bs ∙ ap (λ m. drop (at + m) bs) (sym long)) }
+    record {
+      some = omega arith;
+      fits = omega arith;
+      cuts = c ∙ ap (λ d. take n (drop at bs) ∷ lines d) (drop-drop n at bs ∙ ap (λ m. drop (at + m) bs) (sym long));
+    }
 
 pub line-found : (bs : List ℕ) (at e : ℕ) → at ≤ length bs → Some e ≡ ending at (drop at bs) → LineAt bs at (take (e - at) (drop at bs))
 line-found bs at e a h =
@@ -80,8 +86,9 @@ pub line-last : (bs : List ℕ) (at : ℕ) → at < length bs → None ≡ endin
 line-last bs at a h =
     let rest : length (drop at bs) ≡ length bs - at = length-drop at bs in
     let one : lines (drop at bs) ≡ drop at bs ∷ [] = ending-last (drop at bs) at (omega arith) (sym h) in
-    let whole : LineAt bs at (drop at bs) = record
-      { some = omega arith
-      ; fits = omega arith
-      ; cuts = one ∙ ap (λ d. drop at bs ∷ lines d) (sym (drop-all (at + length (drop at bs)) bs (omega arith))) } in
+    let whole : LineAt bs at (drop at bs) = record {
+      some = omega arith;
+      fits = omega arith;
+      cuts = one ∙ ap (λ d. drop at bs ∷ lines d) (sym (drop-all (at + length (drop at bs)) bs (omega arith)));
+    } in
     subst (λ (r : List ℕ). LineAt bs at r) (sym (take-rest bs at)) whole

@@ -62,10 +62,11 @@ renumbered t = numbered (counted t .globals) (counted t .locals)
 
 abbrev pub meaning-of : List ℕ → Meaning
 meaning-of t =
-    record
-      { globals = counted t .globals
-      ; locals = counted t .locals
-      ; statements = collect (renumbered t) (written t) }
+    record {
+      globals = counted t .globals;
+      locals = counted t .locals;
+      statements = collect (renumbered t) (written t);
+    }
 
 -- 1 to 32,768 bytes
 abbrev pub sized : List ℕ → Bool

@@ -1,6 +1,6 @@
 // The text make of a program: a file of lines, read or refused.
-mod scan;
 mod cells;
-mod survey;
 mod delivered;
+mod scan;
+mod survey;
 pub mod text;

@@ -31,7 +31,11 @@ pub(crate) struct Places {
 fn has_form(n: usize, line: &[u8]) -> bool
     ensures { λ r. ⌜ r ≡ formed n (now (line .entry)) ⌝ }
 {
-    if n == 1 { header_of(line).is_some() } else { statement_of(line).is_some() }
+    if n == 1 {
+        header_of(line).is_some()
+    } else {
+        statement_of(line).is_some()
+    }
 }
 
 // G and L of line 1.
@@ -41,19 +45,20 @@ fn counts_of(bytes: &[u8]) -> Header
 {
     match header_of(line_at(bytes, 0)) {
         Some(header) => header,
-        None => Header { globals: 0, locals: 0 },
+        None => Header {
+            globals: 0,
+            locals: 0,
+        },
     }
 }
 
 // The places of the lines, or the number of the first that has not its form.
 pub(crate) fn find_lines(bytes: &[u8]) -> Result<Places, usize>
     requires { ⌜ length (now bytes) ≤ 32768 ⌝ }
-    ensures {
-        λ r.
+    ensures { λ r.
         ⌜ Cases r
-          (λ ps. Placed (now (bytes .entry)) ps × (misformed (now (bytes .entry)) ≡ None))
-          (λ n. misformed (now (bytes .entry)) ≡ Some n) ⌝
-    }
+        (λ ps. Placed (now (bytes .entry)) ps × (misformed (now (bytes .entry)) ≡ None))
+        (λ n. misformed (now (bytes .entry)) ≡ Some n) ⌝ }
 {
     let mut starts = [0; MOST_LINES];
     let mut count = 0;
@@ -97,19 +102,35 @@ pub(crate) fn survey_of(bytes: &[u8]) -> Result<Survey, Refusal>
     ensures { λ r. ⌜ Cases r (Surveyed (now (bytes .entry))) (λ e. refused (now (bytes .entry)) ≡ Some e) ⌝ }
 {
     if !fits(bytes) {
-        return Err(Refusal { question: Question::Size, place: 0 });
+        return Err(Refusal {
+            question: Question::Size,
+            place: 0,
+        });
     }
     let places = match find_lines(bytes) {
         Ok(found) => found,
-        Err(place) => return Err(Refusal { question: Question::Form, place }),
+        Err(place) => return Err(Refusal {
+            question: Question::Form,
+            place,
+        }),
     };
     let Some(cells) = Cells::of(counts_of(bytes)) else {
-        return Err(Refusal { question: Question::Ranges, place: 1 });
+        return Err(Refusal {
+            question: Question::Ranges,
+            place: 1,
+        });
     };
     let points = places.count.saturating_sub(1);
     if !in_range(points) {
-        return Err(Refusal { question: Question::Length, place: 0 });
+        return Err(Refusal {
+            question: Question::Length,
+            place: 0,
+        });
     }
     let starts = places.starts;
-    Ok(Survey { starts, points: points as u16, cells })
+    Ok(Survey {
+        starts,
+        points: points as u16,
+        cells,
+    })
 }

@@ -10,8 +10,9 @@ ghost use Rattle.text.specs.Reading.{flow-of, meaning-of, accepted};
 use crate::delivered::Delivered;
 use draft::procedures::Procedures;
 
-mod reading;
+mod meant;
 mod program;
+mod reading;
 
 pub use self::program::TextProgram;
 

@@ -24,12 +24,10 @@ pub(crate) fn is_ret(control: Option<Control>) -> bool
 
 // The index of a draft, or the point of its 61st `ret`.
 pub(crate) fn index<D: Draft>(draft: &D) -> Result<Procedures, Point>
-    ensures {
-        λ r.
+    ensures { λ r.
         ⌜ Cases r
-          (λ ps. Describes ps (flow (now (draft .entry))) × (crowded (flow (now (draft .entry))) ≡ None))
-          (λ n. crowded (flow (now (draft .entry))) ≡ Some (n .0)) ⌝
-    }
+        (λ ps. Describes ps (flow (now (draft .entry))) × (crowded (flow (now (draft .entry))) ≡ None))
+        (λ n. crowded (flow (now (draft .entry))) ≡ Some (n .0)) ⌝ }
 {
     let points = draft.points();
     let mut homes = [0; MOST_POINTS];
@@ -45,5 +43,10 @@ pub(crate) fn index<D: Draft>(draft: &D) -> Result<Procedures, Point>
             count += 1;
         }
     }
-    Ok(Procedures { homes, exits, points, count })
+    Ok(Procedures {
+        homes,
+        exits,
+        points,
+        count,
+    })
 }

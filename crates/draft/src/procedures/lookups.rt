@@ -57,6 +57,8 @@ impl Procedures {
     pub(crate) fn together(&self, n: Point, k: Point) -> bool
         ensures { λ r. ⌜ r ≡ beside (now (self .entry)) (n .0) (k .0) ⌝ }
     {
-        k.0 < self.points && n.0 < self.points && self.homes[k.0 as usize] == self.homes[n.0 as usize]
+        k.0 < self.points
+            && n.0 < self.points
+            && self.homes[k.0 as usize] == self.homes[n.0 as usize]
     }
 }

@@ -14,7 +14,10 @@ impl Cells {
         ensures { λ r. ⌜ Ranged header r ⌝ }
     {
         if header.globals <= 31 && 1 <= header.locals && header.locals <= 32 {
-            Some(Cells { globals: header.globals as u8, locals: header.locals as u8 })
+            Some(Cells {
+                globals: header.globals as u8,
+                locals: header.locals as u8,
+            })
         } else {
             None
         }
@@ -49,17 +52,36 @@ impl Cells {
             }
             Statement::Add { to, left, right } => {
                 let (left, right) = self.two_cells(left, right)?;
-                Some(Statement::Add { to: self.cell(to)?, left, right })
+                Some(Statement::Add {
+                    to: self.cell(to)?,
+                    left,
+                    right,
+                })
             }
             Statement::Read { to } => Some(Statement::Read { to: self.cell(to)? }),
-            Statement::Send { from } => Some(Statement::Send { from: self.cell(from)? }),
+            Statement::Send { from } => Some(Statement::Send {
+                from: self.cell(from)?,
+            }),
             Statement::Goto { target } => Some(Statement::Goto { target }),
-            Statement::Test { from, target } => Some(Statement::Test { from: self.cell(from)?, target }),
-            Statement::Call { to, callee, argument } => {
+            Statement::Test { from, target } => Some(Statement::Test {
+                from: self.cell(from)?,
+                target,
+            }),
+            Statement::Call {
+                to,
+                callee,
+                argument,
+            } => {
                 let (to, argument) = self.two_cells(to, argument)?;
-                Some(Statement::Call { to, callee, argument })
+                Some(Statement::Call {
+                    to,
+                    callee,
+                    argument,
+                })
             }
-            Statement::Ret { from } => Some(Statement::Ret { from: self.cell(from)? }),
+            Statement::Ret { from } => Some(Statement::Ret {
+                from: self.cell(from)?,
+            }),
             Statement::Trim { to, from } => {
                 let (to, from) = self.two_cells(to, from)?;
                 Some(Statement::Trim { to, from })

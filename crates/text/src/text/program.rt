@@ -15,29 +15,27 @@ pub impl Program for Text<'_> as TextProgram {
     ghost lawful = { λ t. t .lawful };
 
     fn counts(&self) -> Counts {
-        let cells = self.delivered.cells;
         Counts {
-            globals: cells.globals,
-            locals: cells.locals,
-            points: self.delivered.points,
-            procedures: self.procedures.count(),
+            globals: self.globals(),
+            locals: self.locals(),
+            points: self.length(),
+            procedures: self.procedure_count(),
         }
     }
 
     fn statement(&self, n: Point) -> Option<Statement<Cell>> {
-        let cells = self.delivered.cells;
-        cells.numbered(self.delivered.statement(n)?)
+        self.statement_at(n)
     }
 
     fn procedure_of(&self, n: Point) -> Option<Proc> {
-        self.procedures.procedure_of(n)
+        self.home(n)
     }
 
     fn entry(&self, p: Proc) -> Option<Point> {
-        self.procedures.entry(p)
+        self.first_point(p)
     }
 
     fn exit(&self, p: Proc) -> Option<Point> {
-        self.procedures.exit(p)
+        self.last_point(p)
     }
 }

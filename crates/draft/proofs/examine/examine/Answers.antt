@@ -47,9 +47,10 @@ unfolding foreign missing
 returns g c =
     let cs = g .D·Draft .flow (c .args .draft .now) in
     let ended = sym (c .no-last-ret .ensures) ∙ asked-none question.End _ (sym (c .in-Continue-answer .ensures tt)) in
-    let count = ap (λ k. failing (exists k) 0 cs) (c .count .ensures cs (c .in-Ok .ensures tt .0)) in
-    ( c .in-Ok .ensures tt .0
-    , at-cells cs _ ended (c .in-Ok .ensures tt .1)
-      ∙ (asked-yes question.Cells _ _ _ (sym (c .in-Continue-answer-2 .ensures tt)) (c .first-breach .ensures)
-      ∙ (asked-yes question.Jumps _ _ _ (sym (c .in-Continue-answer-3 .ensures tt)) (c .first-breach-2 .ensures ∙ astray-is (c .in-Ok .found) cs (c .in-Ok .ensures tt .0))
-      ∙ asked-yes question.Callees _ _ _ (sym (c .in-Continue-answer-4 .ensures tt)) (c .first-breach-3 .ensures ∙ count))) )
+    let count = ap (λ k. failing (exists k) 0 cs) (c .count .ensures cs (c .in-Ok .ensures tt .0)) in (
+      c .in-Ok .ensures tt .0,
+      at-cells cs _ ended (c .in-Ok .ensures tt .1)
+          ∙ (asked-yes question.Cells _ _ _ (sym (c .in-Continue-answer-2 .ensures tt)) (c .first-breach .ensures)
+          ∙ (asked-yes question.Jumps _ _ _ (sym (c .in-Continue-answer-3 .ensures tt)) (c .first-breach-2 .ensures ∙ astray-is (c .in-Ok .found) cs (c .in-Ok .ensures tt .0))
+          ∙ asked-yes question.Callees _ _ _ (sym (c .in-Continue-answer-4 .ensures tt)) (c .first-breach-3 .ensures ∙ count))),
+    )

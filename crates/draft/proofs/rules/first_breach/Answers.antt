@@ -14,9 +14,10 @@ pub loop-n-again : need.loop-n-again
 loop-n-again g c =
     let cs = g .D·Draft .flow (c .args .draft .now) in
     let test = g .R·Rule .holds (c .args .rule .now) in
-    elim (c .match-control .came)
-    [ in-Some·else-not-keeps w ↦ sym (failing-more test cs (c .loop-n .n) (w .in-Some .control) (sym (w .in-Some .ensures tt)) (sym (w .if-not-keeps .ensures tt))) ∙ c .loop-n .inv
-    | in-rest w ↦ absurd (omega (arith, c .points-n-end .ensures, nth-none cs (c .loop-n .n) (sym (w .in-rest .ensures tt)))) ]
+    elim (c .match-control .came) [
+      | in-Some·else-not-keeps w ↦ sym (failing-more test cs (c .loop-n .n) (w .in-Some .control) (sym (w .in-Some .ensures tt)) (sym (w .if-not-keeps .ensures tt))) ∙ c .loop-n .inv
+      | in-rest w ↦ absurd (omega (arith, c .points-n-end .ensures, nth-none cs (c .loop-n .n) (sym (w .in-rest .ensures tt))))
+    ]
 
 pub returns : need.returns
 returns g c =

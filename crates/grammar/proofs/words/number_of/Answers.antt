@@ -18,13 +18,14 @@ returns-then-not-is-ascii-digit c =
 pub loop-b-again : need.loop-b-again
 loop-b-again c =
     let digit = c .if-not-is-ascii-digit .ensures tt .cases in
-    let on = value-more (c .args .word .now) (c .loop-b .n) (c .loop-b .b-index) (omega arith) (c .if-not-is-ascii-digit .ensures tt .value) in
-    (ap (λ d. value-on (10 * c .loop-b .n + d) (drop (c .loop-b .b-index + 1) (c .args .word .now))) (c .from .ensures) ∙ (sym on ∙ c .loop-b .inv .0)
-    , (λ h. omega arith)
-    , (λ h. omega (arith, c .loop-b .inv .1 (omega arith), digit))
-    , (λ h. omega (arith, c .loop-b .inv .2 (omega arith), digit))
-    , (λ h. omega (arith, c .loop-b .inv .3 (omega arith), digit))
-    , omega (arith, c .loop-b .inv .4 (omega arith), digit))
+    let on = value-more (c .args .word .now) (c .loop-b .n) (c .loop-b .b-index) (omega arith) (c .if-not-is-ascii-digit .ensures tt .value) in (
+      ap (λ d. value-on (10 * c .loop-b .n + d) (drop (c .loop-b .b-index + 1) (c .args .word .now))) (c .from .ensures) ∙ (sym on ∙ c .loop-b .inv .0),
+      (λ h. omega arith),
+      (λ h. omega (arith, c .loop-b .inv .1 (omega arith), digit)),
+      (λ h. omega (arith, c .loop-b .inv .2 (omega arith), digit)),
+      (λ h. omega (arith, c .loop-b .inv .3 (omega arith), digit)),
+      omega (arith, c .loop-b .inv .4 (omega arith), digit),
+    )
 
 pub returns : need.returns
 returns c =

@@ -13,7 +13,7 @@ loop-p-again g c =
     let p = c .loop-p .p in
     let front = heading-text (totals m) ++ (10 ∷ []) in
     let line : string-bytes (c .in-Continue-line .line) ≡ section-text (section (g .P·Program .meaning (c .args .program .now)) (c .loop-p .p)) ++ (10 ∷ [])
-      = c .in-Continue-line .ensures tt .made ∙ ap (λ s. section-text s ++ (10 ∷ [])) (c .section-of-section .ensures) in
+    = c .in-Continue-line .ensures tt .made ∙ ap (λ s. section-text s ++ (10 ∷ [])) (c .section-of-section .ensures) in
     c .in-Continue-push-str .ensures tt .bytes
     ∙ (ap (λ b. string-bytes (c .loop-p .out) ++ b) (c .as-str .ensures .value ∙ line)
     ∙ (ap (λ b. b ++ (section-text (section m p) ++ (10 ∷ []))) (c .loop-p .inv)

@@ -14,8 +14,10 @@ loop-n-again g c =
     let end = c .args .exit .0 + 1 in
     let more = calls-more m n end (c .loop-n-test .taken) in
     let left = calls-from m (n + 1) (end - (n + 1)) in
-    let here = c .is-call .ensures ∙ ap calls-at (c .statement .ensures) in
-    ( elim (c .if-is-call .came) [ then-is-call w ↦ omega (arith, w .count-is, c .loop-n .inv .0) | else-is-call w ↦ omega (arith, w .count-is, c .loop-n .inv .0) ]
-    , elim (c .if-is-call .came)
-      [ then-is-call w ↦ omega (arith, w .count-is, c .loop-n .inv .1, more, ap (λ b. bump b left) (sym here ∙ w .if-is-call .taken))
-      | else-is-call w ↦ omega (arith, w .count-is, c .loop-n .inv .1, more, ap (λ b. bump b left) (sym here ∙ w .if-is-call .left)) ] )
+    let here = c .is-call .ensures ∙ ap calls-at (c .statement .ensures) in (
+      elim (c .if-is-call .came) [ then-is-call w ↦ omega (arith, w .count-is, c .loop-n .inv .0) | else-is-call w ↦ omega (arith, w .count-is, c .loop-n .inv .0) ],
+      elim (c .if-is-call .came) [
+        | then-is-call w ↦ omega (arith, w .count-is, c .loop-n .inv .1, more, ap (λ b. bump b left) (sym here ∙ w .if-is-call .taken))
+        | else-is-call w ↦ omega (arith, w .count-is, c .loop-n .inv .1, more, ap (λ b. bump b left) (sym here ∙ w .if-is-call .left))
+      ],
+    )

@@ -33,7 +33,7 @@ unfolding outsized unranged
 returns-in-rest c =
     let t = c .args .bytes .now in
     let out : cells-in-range (counted (c .args .bytes .now) .globals) (counted (c .args .bytes .now) .locals) ≡ false
-      = ap (λ (h : Header). cells-in-range (h .globals) (h .locals)) (sym (c .counts-of .ensures)) ∙ c .in-rest .ensures tt in
+    = ap (λ (h : Header). cells-in-range (h .globals) (h .locals)) (sym (c .counts-of .ensures)) ∙ c .in-rest .ensures tt in
     no-ranges t (unless-yes _ 0 (sym (c .if-not-fits .ensures tt))) (c .in-Ok .ensures tt .1) 1 (unless-no _ 1 out)
 
 pub returns-then-not-in-range : need.returns-then-not-in-range
@@ -41,9 +41,9 @@ unfolding outsized unranged miscounted
 returns-then-not-in-range c =
     let t = c .args .bytes .now in
     let ranged : cells-in-range (counted (c .args .bytes .now) .globals) (counted (c .args .bytes .now) .locals) ≡ true
-      = ap (λ (h : Header). cells-in-range (h .globals) (h .locals)) (sym (c .counts-of .ensures)) ∙ c .in-Some .ensures tt .0 in
+    = ap (λ (h : Header). cells-in-range (h .globals) (h .locals)) (sym (c .counts-of .ensures)) ∙ c .in-Some .ensures tt .0 in
     let n : c .saturating-sub-points .result ≡ length (written (c .args .bytes .now))
-      = omega (arith, c .saturating-sub-points .ensures, c .in-Ok .ensures tt .0 .count, written-length t (c .in-Ok .ensures tt .1)) in
+    = omega (arith, c .saturating-sub-points .ensures, c .in-Ok .ensures tt .0 .count, written-length t (c .in-Ok .ensures tt .1)) in
     no-length t (unless-yes _ 0 (sym (c .if-not-fits .ensures tt))) (c .in-Ok .ensures tt .1) (unless-yes _ 1 ranged) 0
     (unless-no _ 0 (ap points-in-range (sym n) ∙ sym (c .if-not-in-range .ensures tt)))
 
@@ -52,16 +52,17 @@ unfolding outsized unranged miscounted
 returns c =
     let t = c .args .bytes .now in
     let ranged : cells-in-range (counted (c .args .bytes .now) .globals) (counted (c .args .bytes .now) .locals) ≡ true
-      = ap (λ (h : Header). cells-in-range (h .globals) (h .locals)) (sym (c .counts-of .ensures)) ∙ c .in-Some .ensures tt .0 in
+    = ap (λ (h : Header). cells-in-range (h .globals) (h .locals)) (sym (c .counts-of .ensures)) ∙ c .in-Some .ensures tt .0 in
     let n : c .saturating-sub-points .result ≡ length (written (c .args .bytes .now))
-      = omega (arith, c .saturating-sub-points .ensures, c .in-Ok .ensures tt .0 .count, written-length t (c .in-Ok .ensures tt .1)) in
+    = omega (arith, c .saturating-sub-points .ensures, c .in-Ok .ensures tt .0 .count, written-length t (c .in-Ok .ensures tt .1)) in
     let few : c .saturating-sub-points .result ≤ 1000 = leb-true (c .saturating-sub-points .result) 1000 (and-parts _ _ (sym (c .if-not-in-range .ensures tt)) .1) in
-    record
-      { sized = unless-yes _ 0 (sym (c .if-not-fits .ensures tt))
-      ; whole = c .in-Ok .ensures tt .1
-      ; ranged = unless-yes _ 1 ranged
-      ; short = unless-yes _ 0 (ap points-in-range (sym n) ∙ sym (c .if-not-in-range .ensures tt))
-      ; points = n
-      ; globals = c .in-Some .ensures tt .1 ∙ ap (λ (h : Header). h .globals) (c .counts-of .ensures)
-      ; locals = c .in-Some .ensures tt .2 ∙ ap (λ (h : Header). h .locals) (c .counts-of .ensures)
-      ; starts = λ k h. c .in-Ok .ensures tt .0 .starts (k + 1) (omega (arith, c .saturating-sub-points .ensures)) (omega (arith, few)) }
+    record {
+      sized = unless-yes _ 0 (sym (c .if-not-fits .ensures tt));
+      whole = c .in-Ok .ensures tt .1;
+      ranged = unless-yes _ 1 ranged;
+      short = unless-yes _ 0 (ap points-in-range (sym n) ∙ sym (c .if-not-in-range .ensures tt));
+      points = n;
+      globals = c .in-Some .ensures tt .1 ∙ ap (λ (h : Header). h .globals) (c .counts-of .ensures);
+      locals = c .in-Some .ensures tt .2 ∙ ap (λ (h : Header). h .locals) (c .counts-of .ensures);
+      starts = λ k h. c .in-Ok .ensures tt .0 .starts (k + 1) (omega (arith, c .saturating-sub-points .ensures)) (omega (arith, few));
+    }

@@ -4,7 +4,7 @@ use Rattle.text.specs.Cells.{numbered}
 use Rattle.text.specs.Reading.{counted, renumbered}
 use Rattle.text.proofs.Lawful.{meant-nth}
 use Rattle.text.proofs.Meant.{yes-all}
-use Rattle.text.proofs.text.program.TextProgram.statement.Needs as need
+use Rattle.text.proofs.text.Text.statement_at.Needs as need
 
 pub returns-in-Break-statement : need.returns-in-Break-statement
 returns-in-Break-statement c =
