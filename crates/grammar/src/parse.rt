@@ -16,14 +16,14 @@ use listing::numbers::Proc;
 use listing::statement::Statement;
 
 impl<'a> Words<'a> {
-    pub fn of(line: &'a [u8]) -> Words<'a>
+    pub(crate) fn of(line: &'a [u8]) -> Words<'a>
         ensures { λ r. ⌜ left r ≡ words (now (line .entry)) ⌝ }
     {
         Words { rest: Some(line) }
     }
 
     // The next word, and what is left after it.
-    pub fn cut(self) -> Option<(&'a [u8], Words<'a>)>
+    pub(crate) fn cut(self) -> Option<(&'a [u8], Words<'a>)>
         ensures { λ r. ⌜ Cases r (left (self .entry) ≡ []) (λ p. left (self .entry) ≡ now (p .0) ∷ left (p .1)) ⌝ }
     {
         let line = self.rest?;
@@ -67,7 +67,7 @@ impl<'a> Words<'a> {
     }
 
     // One number, and nothing after it.
-    pub fn number(self) -> Option<u16>
+    pub(crate) fn number(self) -> Option<u16>
         ensures { λ r. ⌜ r ≡ target (left (self .entry)) ⌝ }
     {
         let (word, rest) = self.cut()?;

@@ -10,7 +10,7 @@ use listing::statement::Statement;
 
 impl Cells {
     // The counts of a header, or none where they are out of range.
-    pub fn of(header: Header) -> Option<Cells>
+    pub(crate) fn of(header: Header) -> Option<Cells>
         ensures { λ r. ⌜ Ranged header r ⌝ }
     {
         if header.globals <= 31 && 1 <= header.locals && header.locals <= 32 {
@@ -24,7 +24,7 @@ impl Cells {
     }
 
     // The cell of a name, or none where it is not the program's.
-    pub fn cell(&self, name: Name) -> Option<Cell>
+    pub(crate) fn cell(&self, name: Name) -> Option<Cell>
         ensures { λ r. ⌜ r ≡ cell-of (now (self .entry) .globals) (now (self .entry) .locals) name ⌝ }
     {
         match name {
@@ -41,7 +41,7 @@ impl Cells {
     }
 
     // The statement over numbered cells, or none where a cell is not the program's.
-    pub fn numbered(&self, s: Statement<Name>) -> Option<Statement<Cell>>
+    pub(crate) fn numbered(&self, s: Statement<Name>) -> Option<Statement<Cell>>
         ensures { λ r. ⌜ r ≡ numbered (now (self .entry) .globals) (now (self .entry) .locals) s ⌝ }
     {
         match s {

@@ -14,7 +14,7 @@ use listing::statement::Statement;
 
 impl Delivered<'_> {
     // The statement at a point, out of the file's own bytes.
-    pub fn statement(&self, n: Point) -> Option<Statement<Name>>
+    pub(crate) fn statement(&self, n: Point) -> Option<Statement<Name>>
         ensures { λ r. ⌜ r ≡ nth (written (now (now (self .entry) .bytes))) (n .0) ⌝ }
     {
         if n.0 >= self.points {
