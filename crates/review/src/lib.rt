@@ -1,0 +1,4 @@
+// A trail in words, move by move, and whether it is a call-matched path.
+
+mod lines;
+pub mod trail;
