@@ -11,12 +11,19 @@ use Rattle.listing.specs.Meaning.{proc}
 use Rattle.flow.specs.declared.cells.CellCounts.{CellCounts}
 use Rattle.flow.specs.declared.interface.Start.{Start}
 
+-- zero, and one fact for each of g globals and l locals
+abbrev pub facts-in : ℕ → ℕ → ℕ
+facts-in g l = g + l + 1
+
 abbrev pub facts-of : CellCounts → ℕ
-facts-of c = c .globals + c .locals + 1
+facts-of c = facts-in (c .globals) (c .locals)
 
 -- the cell that a fact speaks of; zero speaks of none
+abbrev pub spoken-in : ℕ → ℕ → ℕ → Option Cell
+spoken-in g l d = cond (eqb d 0) None (cond (ltb d (facts-in g l)) (Some (record { 0 = d - 1 })) None)
+
 abbrev pub spoken : CellCounts → ℕ → Option Cell
-spoken c d = cond (eqb d 0) None (cond (ltb d (facts-of c)) (Some (record { 0 = d - 1 })) None)
+spoken c = spoken-in (c .globals) (c .locals)
 
 -- procedure 0 with a fact
 abbrev pub from-first : ℕ → Start

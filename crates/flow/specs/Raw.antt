@@ -1,4 +1,5 @@
 -- Which cells may hold a raw reading.
+use Prim.Native.Nat.{ℕ}
 use Rattle.std.specs.declared.option.Option.{Option}
 use Rattle.std.specs.declared.option.Option.the-variants.{Some, None}
 use Rattle.listing.specs.declared.numbers.Cell.{Cell}
@@ -8,7 +9,7 @@ use Rattle.flow.specs.declared.cells.CellCounts.{CellCounts}
 use Rattle.flow.specs.declared.origin.Origin.{Origin}
 use Rattle.flow.specs.declared.origin.Origin.the-variants.{Nothing, Zero, One, Two}
 use Rattle.flow.specs.declared.origin.Write.{Write}
-use Rattle.flow.specs.CellFacts.{facts-of}
+use Rattle.flow.specs.CellFacts.{facts-in}
 use Rattle.flow.specs.Origins.{over}
 use Rattle.flow.specs.Relation.{Rule, statement-of, guarded}
 
@@ -26,5 +27,8 @@ raw-write (statement.Ret s) = None
 raw-write (statement.Trim d s) = Some (record { to = d; from = Nothing })
 
 -- of the callee's locals, all but the first follow from nothing
+abbrev pub raw-in : ℕ → ℕ → Rule
+raw-in g l = guarded (facts-in g l) (λ x. over g (raw-write (statement-of x)) Nothing x)
+
 abbrev pub raw : CellCounts → Rule
-raw c = guarded (facts-of c) (λ x. over (c .globals) (raw-write (statement-of x)) Nothing x)
+raw c = raw-in (c .globals) (c .locals)

@@ -1,4 +1,5 @@
 -- Which cells may be unset.
+use Prim.Native.Nat.{ℕ}
 use Rattle.std.specs.declared.option.Option.{Option}
 use Rattle.std.specs.declared.option.Option.the-variants.{Some, None}
 use Rattle.listing.specs.declared.numbers.Cell.{Cell}
@@ -8,7 +9,7 @@ use Rattle.flow.specs.declared.cells.CellCounts.{CellCounts}
 use Rattle.flow.specs.declared.origin.Origin.{Origin}
 use Rattle.flow.specs.declared.origin.Origin.the-variants.{Nothing, Zero, One, Two}
 use Rattle.flow.specs.declared.origin.Write.{Write}
-use Rattle.flow.specs.CellFacts.{facts-of}
+use Rattle.flow.specs.CellFacts.{facts-in}
 use Rattle.flow.specs.Origins.{over}
 use Rattle.flow.specs.Relation.{Rule, statement-of, guarded}
 
@@ -26,5 +27,8 @@ unset-write (statement.Ret s) = None
 unset-write (statement.Trim d s) = Some (record { to = d; from = (One s) })
 
 -- of the callee's locals, all but the first follow from zero
+abbrev pub unset-in : ℕ → ℕ → Rule
+unset-in g l = guarded (facts-in g l) (λ x. over g (unset-write (statement-of x)) Zero x)
+
 abbrev pub unset : CellCounts → Rule
-unset c = guarded (facts-of c) (λ x. over (c .globals) (unset-write (statement-of x)) Zero x)
+unset c = unset-in (c .globals) (c .locals)

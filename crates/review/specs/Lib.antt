@@ -1,1 +1,2 @@
 pub mod Reviewed
+pub mod Told
