@@ -1,4 +1,6 @@
 // Worked cases, computed from the definitions that the contracts cite.
+#![tactic(auto)]
+
 ghost use Rattle.std.specs.Prelude.{◌≡◌};
 ghost use Rattle.listing.specs.Meaning.{totals};
 ghost use Rattle.text.specs.Reading.{meaning_of, refused, answered};

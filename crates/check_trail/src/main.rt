@@ -1,5 +1,7 @@
 // Tells a trail over the listing on standard input, move by move, and whether it is a call-matched path. The first argument is
 // the problem, `unset` or `raw`; the others are the trail's words in hexadecimal.
+#![tactic(auto)]
+
 use flow::choice::Choice;
 use review::told::review_listing;
 use std::env;

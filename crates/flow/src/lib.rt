@@ -1,4 +1,6 @@
 // Problems: numbered facts, and which follows from which over an edge.
+#![tactic(auto)]
+
 pub mod cells;
 pub mod choice;
 pub mod edge;

@@ -1,4 +1,6 @@
 // The vocabulary of listings, and the interface by which a program is read.
+#![tactic(auto)]
+
 pub mod control;
 pub mod counts;
 pub mod numbers;

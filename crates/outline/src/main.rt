@@ -1,4 +1,6 @@
 // Tells the counts and the procedures of the listing on standard input, or why it is refused.
+#![tactic(auto)]
+
 use overview::outline::outline;
 use std::io::Read;
 

@@ -1,4 +1,6 @@
 // Tells the outline of each of 200 listings, good and damaged.
+#![tactic(auto)]
+
 use overview::outline::outline;
 use std::fs;
 

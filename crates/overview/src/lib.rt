@@ -1,3 +1,5 @@
 // What a contractor sees first: the counts and the procedures of a listing, or why it is refused.
+#![tactic(auto)]
+
 pub mod outline;
 mod section;

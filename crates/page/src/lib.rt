@@ -1,4 +1,6 @@
 // The lines and the foot of a report, written into a page that is lent.
+#![tactic(auto)]
+
 ghost use Rattle.paths.specs.Page.{line_text, foot_text};
 ghost use Rattle.page.specs.Writes.{Writes};
 

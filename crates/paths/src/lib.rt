@@ -1,4 +1,6 @@
 // Call-matched paths, the table that finds what they reach, and the check of a trail: each theorem as the contract of a function.
+#![tactic(auto)]
+
 ghost use Rattle.std.specs.Prelude.{◌≡◌, ℕ, ◌*◌, ◌≤◌, List, length};
 ghost use Rattle.paths.specs.Supergraph.{Listings};
 ghost use Rattle.paths.specs.Theorem.{Tabulates};

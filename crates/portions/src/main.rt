@@ -1,6 +1,8 @@
 // Tabulates the listing on standard input in portions, and tells the tallies after each portion and then the number of cells. The
 // first argument is the problem, `unset` or `raw`, the second the number of cells in a portion; the third, which may be left out, is
 // the end of the row from which cells are taken, `oldest` or `newest`.
+#![tactic(auto)]
+
 use flow::choice::Choice;
 use paths::worklist::End;
 use progress::portion::Portion;

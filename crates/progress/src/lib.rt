@@ -1,4 +1,6 @@
 // A tabulation in portions, told by its tallies.
+#![tactic(auto)]
+
 pub mod portion;
 pub mod tabulate;
 pub mod told;

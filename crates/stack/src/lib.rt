@@ -1,4 +1,6 @@
 // A stack in the front of a slice, with its height in a count beside it.
+#![tactic(auto)]
+
 ghost use Rattle.stack.specs.Stack.{Pushed, Popped};
 
 // Puts an entry on top; false where the slice is full, and then nothing changes.

@@ -1,4 +1,6 @@
 // Sowing the default starts of a problem.
+#![tactic(auto)]
+
 ghost use Rattle.std.specs.Prelude.{◌≡◌, take, drop};
 ghost use Rattle.paths.specs.Does.{handed};
 ghost use Rattle.starts.specs.Sown.{sown_all, Carries};

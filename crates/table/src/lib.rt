@@ -1,3 +1,5 @@
 // The tabulation: a table of found cells, settled in portions.
+#![tactic(auto)]
+
 mod sites;
 pub mod state;

@@ -1,4 +1,6 @@
 // Tabulates each of 100 listings in portions.
+#![tactic(auto)]
+
 use anyhow::anyhow;
 use flow::choice::Choice;
 use paths::worklist::End;

@@ -1,4 +1,6 @@
 // Tells each of 120 trails, lawful and damaged.
+#![tactic(auto)]
+
 use flow::choice::Choice;
 use review::told::review_listing;
 use std::fs;
