@@ -13,7 +13,7 @@ use listing::numbers::Point;
 
 // The last point, where its statement is no `ret`.
 fn no_last_ret<D: Draft>(draft: &D) -> Option<Point>
-    ensures { option_map (λ n. n.0) result ≡ unended (flow draft.now) }
+    ensures { option_map (λ n. n.0) result ≡ unended (D.flow draft.now) }
 {
     let last = Point(draft.points().saturating_sub(1));
     if is_ret(draft.control(last)) {
@@ -43,10 +43,10 @@ pub struct Index {
 // Puts each question to every statement before the next: the index of procedures and calls, or the first no.
 pub fn examine<D: Draft>(draft: &D) -> Result<Index, Breach>
     ensures { MatchResult result
-        (λ found. Describes found.procedures (flow draft.now)
-        × Threads found.callers (flow draft.now)
-        × (breach (flow draft.now) (owned draft.now) ≡ None))
-        (λ b. breach (flow draft.now) (owned draft.now) ≡ Some b) }
+        (λ found. Describes found.procedures (D.flow draft.now)
+        × Threads found.callers (D.flow draft.now)
+        × (breach (D.flow draft.now) (D.owned draft.now) ≡ None))
+        (λ b. breach (D.flow draft.now) (D.owned draft.now) ≡ Some b) }
 {
     answer(Question::End, no_last_ret(draft))?;
     let procedures = match index(draft) {

@@ -30,8 +30,8 @@ fn link(first: &mut [u16], next: &mut [u16], n: Point, callee: Proc)
 
 // The index of a draft, found from its last call to its first.
 pub(crate) fn index_calls<D: Draft>(draft: &D) -> Callers
-    requires { Callable (flow draft.now) }
-    ensures { Threads result (flow draft.now) }
+    requires { Callable (D.flow draft.now) }
+    ensures { Threads result (D.flow draft.now) }
 {
     let mut first = [NO_POINT; MOST_PROCEDURES];
     let mut next = [NO_POINT; MOST_POINTS];

@@ -20,8 +20,8 @@ pub(crate) fn is_ret(control: Option<Control>) -> bool
 // The index of a draft, or the point of its 61st `ret`.
 pub(crate) fn index<D: Draft>(draft: &D) -> Result<Procedures, Point>
     ensures { MatchResult result
-        (λ ps. Describes ps (flow draft.now) × (crowded (flow draft.now) ≡ None))
-        (λ n. crowded (flow draft.now) ≡ Some n.0) }
+        (λ ps. Describes ps (D.flow draft.now) × (crowded (D.flow draft.now) ≡ None))
+        (λ n. crowded (D.flow draft.now) ≡ Some n.0) }
 {
     let points = draft.points();
     let mut homes = [0; MOST_POINTS];

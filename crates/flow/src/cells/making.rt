@@ -30,8 +30,8 @@ impl CellCounts {
 
     // The counts of a program's cells: every program's are in range.
     pub fn of<P: Program>(program: &P) -> CellCounts
-        ensures globals { result.globals ≡ (meaning program.now).globals }
-        ensures locals { result.locals ≡ (meaning program.now).locals }
+        ensures globals { result.globals ≡ (P.meaning program.now).globals }
+        ensures locals { result.locals ≡ (P.meaning program.now).locals }
     {
         let counts = program.counts();
         match CellCounts::new(counts.globals, counts.locals) {

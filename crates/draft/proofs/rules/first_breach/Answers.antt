@@ -2,7 +2,7 @@ use Rattle.listing.proofs.Lists.{nth_none}
 use Rattle.std.proofs.Common.{◌≡◌, sym, ◌∙◌, arith}
 use Rattle.draft.proofs.Failing.{failing_here, failing_more, failing_none}
 use Rattle.draft.proofs.rules.first_breach.Goals as goal
-use Rattle.draft.proofs.rules.first_breach.Goals.{in-Some+else-not-keeps, in-default}
+use Rattle.draft.proofs.rules.first_breach.Goals.{in-Some+else-not-keeps, in_default}
 
 pub returns-then-not-keeps : goal.returns-then-not-keeps
 returns-then-not-keeps g c =
@@ -15,7 +15,7 @@ loop-n-preserved g c =
     let test = g.R.Rule.holds c.args.rule.now in
     elim c.match-control.branch [
       | in-Some+else-not-keeps w ↦ sym (failing_more test cs c.loop-n.n w.in-Some.control (sym w.in-Some.ensures) (sym w.if-not-keeps.ensures)) ∙ c.loop-n.invariant
-      | in-default w ↦ absurd (omega (arith, c.points-n-end.ensures, nth_none cs c.loop-n.n (sym w.in-default.ensures)))
+      | in_default w ↦ absurd (omega (arith, c.points-n-end.ensures, nth_none cs c.loop-n.n (sym w.in-default.ensures)))
     ]
 
 pub returns : goal.returns

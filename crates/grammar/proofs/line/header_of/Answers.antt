@@ -11,5 +11,5 @@ returns-in-err-body-of c =
 
 pub returns : goal.returns
 returns c =
-    let v : c.header-in.result ≡ header c.args.line.now = c.header-in.ensures ∙ ap (λ o. then o (λ b. cells (words b))) c.in-ok-body-of.ensures in
-    record { value = v; spelt = header_spelt c.args.line.now c.header-in.result v }
+    let v : c.header_in.result ≡ header c.args.line.now = c.header_in.ensures ∙ ap (λ o. then o (λ b. cells (words b))) c.in_ok-body_of.ensures in
+    record { value = v; spelt = header_spelt c.args.line.now c.header_in.result v }

@@ -11,5 +11,5 @@ returns-in-err-body-of c =
 
 pub returns : goal.returns
 returns c =
-    let v : c.statement-in.result ≡ statement c.args.line.now = c.statement-in.ensures ∙ ap (λ o. then o (λ b. spelled (words b))) c.in-ok-body-of.ensures in
-    record { value = v; spelt = statement_spelt c.args.line.now c.statement-in.result v }
+    let v : c.statement_in.result ≡ statement c.args.line.now = c.statement_in.ensures ∙ ap (λ o. then o (λ b. spelled (words b))) c.in_ok-body_of.ensures in
+    record { value = v; spelt = statement_spelt c.args.line.now c.statement_in.result v }

@@ -10,10 +10,10 @@ returns-in-err-n c = c.from-residual.ensures ∙ name_none c.args.word.now (sear
 
 pub returns-in-g : goal.returns-in-g
 returns-in-g c =
-    ap (option_map Global) c.in-ok-n.ensures
+    ap (option_map Global) c.in_ok-n.ensures
     ∙ sym (name_at c.args.word.now (search rules) ∙ cond-true _ _ _ (eq-eqb _ _ (sym c.from.ensures ∙ c.in-g.is)))
 
 pub returns-in-l : goal.returns-in-l
 returns-in-l c =
-    ap (option_map Local) c.in-ok-n.ensures
+    ap (option_map Local) c.in_ok-n.ensures
     ∙ sym (name_at c.args.word.now (search rules) ∙ (cond-false _ _ _ (ne_eqb (get_or c.args.word.now 0 0) 103 (λ e. omega (arith, c.from.ensures, c.in-l.is))) ∙ cond-true _ _ _ (eq-eqb _ _ (sym c.from.ensures ∙ c.in-l.is))))

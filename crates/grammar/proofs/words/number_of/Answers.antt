@@ -13,8 +13,8 @@ returns-then-not-is-ascii-digit c =
 
 pub loop-b-preserved : goal.loop-b-preserved
 loop-b-preserved c =
-    let digit = c.if-not-is-ascii-digit.ensures.cases in
-    let on = value_more c.args.word.now c.loop-b.n c.loop-b.b-index (omega arith) c.if-not-is-ascii-digit.ensures.value in (
+    let digit = c.if-not-is_ascii_digit.ensures.cases in
+    let on = value_more c.args.word.now c.loop-b.n c.loop-b.b-index (omega arith) c.if-not-is_ascii_digit.ensures.value in (
       ap (λ d. value_on (10 * c.loop-b.n + d) (drop (c.loop-b.b-index + 1) c.args.word.now)) c.from.ensures ∙ (sym on ∙ c.loop-b.invariant.0),
       (λ h. omega arith),
       (λ h. omega (arith, c.loop-b.invariant.1 (omega arith), digit)),

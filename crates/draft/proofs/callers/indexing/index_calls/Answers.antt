@@ -43,4 +43,4 @@ loop-n-preserved g c =
     let inv = c.loop-n.invariant in
     let before : c.loop-n.n ≡ c.loop-n.n - 1 + 1 = omega arith in
     let later = subst (λ (m : ℕ). Threaded (g.D.Draft.flow c.args.draft.now) c.loop-n.first c.loop-n.next m) before inv.2 in
-    (inv.0, inv.1, threaded_quiet _ _ _ _ later (sym (c.in-default.ensures ∙ ap called c.control.ensures)))
+    (inv.0, inv.1, threaded_quiet _ _ _ _ later (sym (c.in_default.ensures ∙ ap called c.control.ensures)))

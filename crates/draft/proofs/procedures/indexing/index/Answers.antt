@@ -6,7 +6,7 @@ use Rattle.listing.specs.Procedures.{bump, rets, procedure, exit}
 use Rattle.draft.specs.Rules.{has_ret}
 use Rattle.draft.proofs.Flows.{procedure_more, procedure_le, procedure_all, exit_here, crowded_at, crowded_none}
 use Rattle.draft.proofs.procedures.indexing.index.Goals as goal
-use Rattle.draft.proofs.procedures.indexing.index.Goals.{then-is-ret+else-count-eq-MOST-PROCEDURES, else-is-ret}
+use Rattle.draft.proofs.procedures.indexing.index.Goals.{then-is_ret+else-count-eq-MOST_PROCEDURES, else-is_ret}
 
 pub bounds-homes-n : goal.bounds-homes-n
 bounds-homes-n g c = omega (arith, leb-true _ _ (g.D.Draft.few c.args.draft.now), c.points-points.ensures)
@@ -22,7 +22,7 @@ loop-n-preserved g c =
     let cs = g.D.Draft.flow c.args.draft.now in
     let n = c.loop-n.n in
     let inv = c.loop-n.invariant in
-    let flag : has_ret (slice_get (g.D.Draft.flow c.args.draft.now) c.loop-n.n) ≡ c.is-ret.result = sym (c.is-ret.ensures ∙ ap has_ret c.control.ensures) in
+    let flag : has_ret (slice_get (g.D.Draft.flow c.args.draft.now) c.loop-n.n) ≡ c.is_ret.result = sym (c.is_ret.ensures ∙ ap has_ret c.control.ensures) in
     let more = procedure_more cs n in
     let within : c.loop-n.n < length c.loop-n.homes = omega (arith, leb-true _ _ (g.D.Draft.few c.args.draft.now), c.points-points.ensures) in
     let homes_more : (k : ℕ) → k < c.loop-n.n + 1 → get_or (set c.loop-n.homes c.loop-n.n c.loop-n.count) k 0 ≡ procedure (g.D.Draft.flow c.args.draft.now) k
@@ -30,7 +30,7 @@ loop-n-preserved g c =
     (λ k h. let ne : k ≢ c.loop-n.n = omega arith in get_or-set_other c.loop-n.homes n k c.loop-n.count 0 ne ∙ inv.4 k h)
     (get_or-set_same c.loop-n.homes n c.loop-n.count 0 within ∙ inv.3) in
     elim c.if-is-ret.branch [
-      | then-is-ret+else-count-eq-MOST-PROCEDURES w ↦
+      | then-is_ret+else-count-eq-MOST_PROCEDURES w ↦
           let room : c.loop-n.count < 60 = omega (arith, inv.2, w.if-count-eq-MOST-PROCEDURES.false) in
           let now-ret = ap (λ b. bump b (procedure cs n)) (flag ∙ w.if-is-ret.true) in (
             length-set _ _ _ ∙ inv.0,
@@ -47,7 +47,7 @@ loop-n-preserved g c =
                 (omega (arith, get_or-set_same c.loop-n.exits c.loop-n.count n 0 (omega (arith, inv.1))))
                 p (omega (arith, w.count-is))),
           )
-      | else-is-ret w ↦
+      | else-is_ret w ↦
           let no_ret = ap (λ b. bump b (procedure cs n)) (flag ∙ w.if-is-ret.false) in (
             length-set _ _ _ ∙ inv.0,
             ap length w.exits-is ∙ inv.1,

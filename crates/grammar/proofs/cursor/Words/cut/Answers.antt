@@ -9,12 +9,12 @@ use Rattle.grammar.proofs.cursor.Words.cut.Goals as goal
 pub returns-then-n-line : goal.returns-then-n-line
 returns-then-n-line c =
     simp (take_rest, sub-zero, add-one)
-    (ap left_in c.in-ok-line.was
-    ∙ words_cut c.in-ok-line.line.now c.space-n.result c.space-n.ensures.before c.if-n-line.true (c.space-n.ensures.found c.if-n-line.true))
+    (ap left_in c.in_ok-line.was
+    ∙ words_cut c.in_ok-line.line.now c.space-n.result c.space-n.ensures.before c.if-n-line.true (c.space-n.ensures.found c.if-n-line.true))
 
 pub returns-else-n-line : goal.returns-else-n-line
 returns-else-n-line c =
-    let l : length c.in-ok-line.line.now ≤ c.space-n.result = omega arith in
+    let l : length c.in_ok-line.line.now ≤ c.space-n.result = omega arith in
     simp (sub-zero, take_all)
-    (ap left_in c.in-ok-line.was
-    ∙ words_last c.in-ok-line.line.now (λ k h. c.space-n.ensures.before k (omega arith)))
+    (ap left_in c.in_ok-line.was
+    ∙ words_last c.in_ok-line.line.now (λ k h. c.space-n.ensures.before k (omega arith)))
