@@ -4,10 +4,10 @@ use Rattle.grammar.specs.Grammar.{then, spelled, statement}
 use Rattle.grammar.proofs.Spelt.{statement_spelt}
 use Rattle.grammar.proofs.line.statement_of.Goals as goal
 
-pub returns-in-err-body-of : goal.returns-in-err-body-of
-returns-in-err-body-of c =
-    let v : c.from-residual.result ≡ statement c.args.line.now = c.from-residual.ensures ∙ ap (λ o. then o (λ b. spelled (words b))) c.in-err-body-of.ensures in
-    record { value = v; spelt = statement_spelt c.args.line.now c.from-residual.result v }
+pub returns-in_err-body_of : goal.returns-in_err-body_of
+returns-in_err-body_of c =
+    let v : c.from_residual.result ≡ statement c.args.line.now = c.from_residual.ensures ∙ ap (λ o. then o (λ b. spelled (words b))) c.in_err-body_of.ensures in
+    record { value = v; spelt = statement_spelt c.args.line.now c.from_residual.result v }
 
 pub returns : goal.returns
 returns c =

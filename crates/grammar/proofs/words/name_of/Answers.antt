@@ -5,8 +5,8 @@ use Rattle.grammar.specs.declared.name.Name.TheVariants.{Global, Local}
 use Rattle.grammar.proofs.Cuts.{name_at, name_none}
 use Rattle.grammar.proofs.words.name_of.Goals as goal
 
-pub returns-in-err-n : goal.returns-in-err-n
-returns-in-err-n c = c.from-residual.ensures ∙ name_none c.args.word.now (search rules) c.in-err-n.ensures
+pub returns-in_err-n : goal.returns-in_err-n
+returns-in_err-n c = c.from_residual.ensures ∙ name_none c.args.word.now (search rules) c.in_err-n.ensures
 
 pub returns-in-g : goal.returns-in-g
 returns-in-g c =

@@ -6,10 +6,10 @@ use Rattle.grammar.specs.Words.{value_on, short}
 use Rattle.grammar.proofs.Cuts.{value_more, value_none, number_none}
 use Rattle.grammar.proofs.words.number_of.Goals as goal
 
-pub returns-then-not-is-ascii-digit : goal.returns-then-not-is-ascii-digit
-returns-then-not-is-ascii-digit c =
+pub returns-then-not-is_ascii_digit : goal.returns-then-not-is_ascii_digit
+returns-then-not-is_ascii_digit c =
     number_none c.args.word.now
-    (sym c.loop-b.invariant.0 ∙ value_none c.args.word.now c.loop-b.n c.loop-b.b-index (omega arith) c.if-not-is-ascii-digit.ensures.value)
+    (sym c.loop-b.invariant.0 ∙ value_none c.args.word.now c.loop-b.n c.loop-b.b-index (omega arith) c.if-not-is_ascii_digit.ensures.value)
 
 pub loop-b-preserved : goal.loop-b-preserved
 loop-b-preserved c =
