@@ -21,7 +21,7 @@ pub(crate) trait Rule {
 
 // The first point whose statement does not keep a rule.
 pub(crate) fn first_breach<D: Draft, R: Rule>(draft: &D, rule: &R) -> Option<Point>
-    ensures { option_map (λ n. n.0) result ≡ failing (R.holds rule.now) 0 (Flow draft.now) }
+    ensures { option_map (λ n. n.0) result ≡ failing (R.holds rule.now) 0 (D.flow draft.now) }
 {
     for n in 0..draft.points() {
         let n = Point(n);

@@ -6,18 +6,18 @@ use Rattle.draft.specs.Rules.{unended, has_ret}
 use Rattle.draft.proofs.Flows.{ends_last}
 use Rattle.draft.proofs.examine.no_last_ret.Goals as goal
 
-pub returns-then-is-ret : goal.returns-then-is-ret
+pub returns-then-is_ret : goal.returns-then-is_ret
 unfolding unended
-returns-then-is-ret g c =
+returns-then-is_ret g c =
     let cs = g.D.Draft.flow c.args.draft.now in
-    let last : c.saturating-sub.result ≡ length (g.D.Draft.flow c.args.draft.now) - 1 = omega (arith, c.points.ensures) in
+    let last : c.saturating_sub.result ≡ length (g.D.Draft.flow c.args.draft.now) - 1 = omega (arith, c.points.ensures) in
     let there = ap has_ret (c.control.ensures ∙ ap (slice_get cs) last) in
-    sym (cond-true _ _ _ (ends_last cs ∙ (sym there ∙ sym c.if-is-ret.ensures)))
+    sym (cond-true _ _ _ (ends_last cs ∙ (sym there ∙ sym c.if-is_ret.ensures)))
 
-pub returns-else-is-ret : goal.returns-else-is-ret
+pub returns-else-is_ret : goal.returns-else-is_ret
 unfolding unended
-returns-else-is-ret g c =
+returns-else-is_ret g c =
     let cs = g.D.Draft.flow c.args.draft.now in
-    let last : c.saturating-sub.result ≡ length (g.D.Draft.flow c.args.draft.now) - 1 = omega (arith, c.points.ensures) in
+    let last : c.saturating_sub.result ≡ length (g.D.Draft.flow c.args.draft.now) - 1 = omega (arith, c.points.ensures) in
     let there = ap has_ret (c.control.ensures ∙ ap (slice_get cs) last) in
-    sym (cond-false _ _ _ (ends_last cs ∙ (sym there ∙ sym c.if-is-ret.ensures)) ∙ ap Some (sym last))
+    sym (cond-false _ _ _ (ends_last cs ∙ (sym there ∙ sym c.if-is_ret.ensures)) ∙ ap Some (sym last))

@@ -15,7 +15,7 @@ loop-n-preserved g c =
     let test = g.R.Rule.holds c.args.rule.now in
     elim c.match-control.branch [
       | in-Some+else-not-keeps w ↦ sym (failing_more test cs c.loop-n.n w.in-Some.control (sym w.in-Some.ensures) (sym w.if-not-keeps.ensures)) ∙ c.loop-n.invariant
-      | in_default w ↦ absurd (omega (arith, c.points-n-end.ensures, nth_none cs c.loop-n.n (sym w.in-default.ensures)))
+      | in_default w ↦ absurd (omega (arith, c.points-n-end.ensures, nth_none cs c.loop-n.n (sym w.in_default.ensures)))
     ]
 
 pub returns : goal.returns

@@ -5,8 +5,8 @@ use Rattle.draft.proofs.Calls.{known_some, known_none}
 use Rattle.draft.proofs.callers.lookups.point_at.Goals as goal
 use Rattle.draft.proofs.callers.lookups.point_at.Goals.{else-place-table-via-then-place-table+else-table-place-lt-NO_POINT, else-place-table-via-else-place-table}
 
-pub returns-then-table-place-lt-NO-POINT : goal.returns-then-table-place-lt-NO-POINT
-returns-then-table-place-lt-NO-POINT c =
+pub returns-then-table-place-lt-NO_POINT : goal.returns-then-table-place-lt-NO_POINT
+returns-then-table-place-lt-NO_POINT c =
     sym (known_some _ (omega arith)) ∙ ap known (get_or_default c.args.table.now c.args.place 0 1000 (omega arith))
 
 pub returns-else-place-table : goal.returns-else-place-table

@@ -11,11 +11,11 @@ use Rattle.draft.proofs.procedures.indexing.index.Goals.{then-is_ret+else-count-
 pub bounds-homes-n : goal.bounds-homes-n
 bounds-homes-n g c = omega (arith, leb-true _ _ (g.D.Draft.few c.args.draft.now), c.points-points.ensures)
 
-pub returns-then-count-eq-MOST-PROCEDURES : goal.returns-then-count-eq-MOST-PROCEDURES
-returns-then-count-eq-MOST-PROCEDURES g c =
+pub returns-then-count-eq-MOST_PROCEDURES : goal.returns-then-count-eq-MOST_PROCEDURES
+returns-then-count-eq-MOST_PROCEDURES g c =
     crowded_at (g.D.Draft.flow c.args.draft.now) c.loop-n.n
-    (sym (c.is-ret.ensures ∙ ap has_ret c.control.ensures) ∙ c.if-is-ret.true)
-    (sym c.loop-n.invariant.3 ∙ c.if-count-eq-MOST-PROCEDURES.true)
+    (sym (c.is_ret.ensures ∙ ap has_ret c.control.ensures) ∙ c.if-is_ret.true)
+    (sym c.loop-n.invariant.3 ∙ c.if-count-eq-MOST_PROCEDURES.true)
 
 pub loop-n-preserved : goal.loop-n-preserved
 loop-n-preserved g c =
@@ -29,10 +29,10 @@ loop-n-preserved g c =
     = below_more _ _
     (λ k h. let ne : k ≢ c.loop-n.n = omega arith in get_or-set_other c.loop-n.homes n k c.loop-n.count 0 ne ∙ inv.4 k h)
     (get_or-set_same c.loop-n.homes n c.loop-n.count 0 within ∙ inv.3) in
-    elim c.if-is-ret.branch [
+    elim c.if-is_ret.branch [
       | then-is_ret+else-count-eq-MOST_PROCEDURES w ↦
-          let room : c.loop-n.count < 60 = omega (arith, inv.2, w.if-count-eq-MOST-PROCEDURES.false) in
-          let now-ret = ap (λ b. bump b (procedure cs n)) (flag ∙ w.if-is-ret.true) in (
+          let room : c.loop-n.count < 60 = omega (arith, inv.2, w.if-count-eq-MOST_PROCEDURES.false) in
+          let now-ret = ap (λ b. bump b (procedure cs n)) (flag ∙ w.if-is_ret.true) in (
             length-set _ _ _ ∙ inv.0,
             ap length w.exits-is ∙ (length-set _ _ _ ∙ inv.1),
             omega (arith, w.count-is),
@@ -40,7 +40,7 @@ loop-n-preserved g c =
             homes_more,
             λ p h. ap (λ xs. get_or xs p 0) w.exits-is ∙ below_more (λ (q : ℕ). get_or (set c.loop-n.exits c.loop-n.count n) q 0 ≡ exit cs q) c.loop-n.count
                 (λ q l. let ne : q ≢ c.loop-n.count = omega arith in get_or-set_other c.loop-n.exits c.loop-n.count q n 0 ne ∙ inv.5 q l)
-                (get_or-set_same c.loop-n.exits c.loop-n.count n 0 (omega (arith, inv.1)) ∙ (sym (exit_here cs n (flag ∙ w.if-is-ret.true)) ∙ ap (exit cs) (sym inv.3)))
+                (get_or-set_same c.loop-n.exits c.loop-n.count n 0 (omega (arith, inv.1)) ∙ (sym (exit_here cs n (flag ∙ w.if-is_ret.true)) ∙ ap (exit cs) (sym inv.3)))
                 p (omega (arith, w.count-is)),
             λ p h. subst (λ (xs : List ℕ). get_or xs p 0 < n + 1) (sym w.exits-is) (below_more (λ (q : ℕ). get_or (set c.loop-n.exits c.loop-n.count n) q 0 < n + 1) c.loop-n.count
                 (λ q l. let ne : q ≢ c.loop-n.count = omega arith in omega (arith, get_or-set_other c.loop-n.exits c.loop-n.count q n 0 ne, inv.6 q l))
@@ -48,7 +48,7 @@ loop-n-preserved g c =
                 p (omega (arith, w.count-is))),
           )
       | else-is_ret w ↦
-          let no_ret = ap (λ b. bump b (procedure cs n)) (flag ∙ w.if-is-ret.false) in (
+          let no_ret = ap (λ b. bump b (procedure cs n)) (flag ∙ w.if-is_ret.false) in (
             length-set _ _ _ ∙ inv.0,
             ap length w.exits-is ∙ inv.1,
             omega (arith, w.count-is),
@@ -59,8 +59,12 @@ loop-n-preserved g c =
           )
     ]
 
-pub invariant-of-result : goal.invariant-of-result
-invariant-of-result g c = (omega (arith, leb-true _ _ (g.D.Draft.few c.args.draft.now), c.points-points.ensures), (c.loop-n.invariant.2, ((λ p h. omega (arith, c.loop-n.invariant.6 p h)), tt)))
+pub invariant_of-result : goal.invariant_of-result
+invariant_of-result g c = record {
+      short = omega (arith, leb-true _ _ (g.D.Draft.few c.args.draft.now), c.points-points.ensures);
+      few = c.loop-n.invariant.2;
+      inside = λ p h. omega (arith, c.loop-n.invariant.6 p h);
+    }
 
 pub returns : goal.returns
 returns g c =
