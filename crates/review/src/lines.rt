@@ -1,12 +1,12 @@
 // One move in words.
 ghost use Rattle.std.specs.Prelude.{◌≡◌, ◌+◌, ◌^◌, ◌<◌, Some};
-ghost use Rattle.check.specs.Handing.{told};
+ghost use Rattle.trail_check.specs.Handing.{told};
 ghost use Rattle.review.specs.Reviewed.{kind_text, item_text, line_text, verdict_text, opened};
 
-use check::fault::Fault;
 use listing::numbers::Cell;
 use moves::moves::{Kind, Move};
 use std::fmt;
+use trail_check::fault::Fault;
 
 // The name of a kind.
 #[derive(Clone, Copy)]

@@ -1,18 +1,18 @@
 // A whole trail in words.
 ghost use Rattle.std.specs.Prelude.{◌≡◌, length, take, IfOk, string_bytes};
 ghost use Rattle.paths.specs.Does.{handed};
-ghost use Rattle.check.specs.Handing.{told};
+ghost use Rattle.trail_check.specs.Handing.{told};
 ghost use Rattle.paths.specs.Checked.{check_no};
 ghost use Rattle.review.specs.Reviewed.{lines_of, lawful_words, reviewed};
 
 use crate::lines::{Item, MoveLine, Verdict, open_after};
-use check::fault::Fault;
-use check::trail::check_trail;
 use flow::interface::Problem;
 use listing::numbers::{Cell, Point};
 use listing::program::Program;
 use moves::moves::Move;
 use std::alloc::{AllocError, Global};
+use trail_check::fault::Fault;
+use trail_check::trail::check_trail;
 
 // The lines of words, up to the first that is no move's.
 fn move_lines<Q: Problem<Item = Cell>>(

@@ -1,5 +1,5 @@
 use Rattle.std.proofs.Common.{◌≡◌, take, sym, ap, ◌∙◌, arith}
-use Rattle.check.specs.Handing.{told}
+use Rattle.trail_check.specs.Handing.{told}
 use Rattle.review.specs.Reviewed.{lawful_words}
 use Rattle.std.proofs.lemmas.List.{take_all}
 use Rattle.review.proofs.Written.{take_whole}

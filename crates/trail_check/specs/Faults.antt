@@ -1,7 +1,7 @@
 -- Number and place of a fault.
 use Rattle.std.specs.Prelude.{ℕ}
-use Rattle.check.specs.declared.fault.Fault.{Fault}
-use Rattle.check.specs.declared.fault.Fault.TheVariants.{Room, Stray}
+use Rattle.trail_check.specs.declared.fault.Fault.{Fault}
+use Rattle.trail_check.specs.declared.fault.Fault.TheVariants.{Room, Stray}
 
 abbrev pub number_of : Fault → ℕ
 number_of Room = 17

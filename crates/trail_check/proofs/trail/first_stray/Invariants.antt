@@ -1,9 +1,9 @@
 use Rattle.std.proofs.Common.{◌≡◌, ◌≤◌, length, drop}
 use Rattle.paths.specs.Checked.{stuck, first_stuck}
 use Rattle.paths.specs.Does.{handed}
-use Rattle.check.specs.Handing.{open_in, spot_at}
-use Rattle.check.proofs.Strays.{further}
-use Rattle.check.proofs.trail.first_stray.Given as goal
+use Rattle.trail_check.specs.Handing.{open_in, spot_at}
+use Rattle.trail_check.proofs.Strays.{further}
+use Rattle.trail_check.proofs.trail.first_stray.Given as goal
 
 -- the words that are left give the place
 abbrev pub invariant-loop-place : goal.invariant-loop-place

@@ -1,6 +1,6 @@
 use Rattle.std.proofs.Common.{Some, sym, ap, ◌∙◌}
 use Rattle.paths.proofs.Callees.{has_exit}
-use Rattle.check.proofs.rules.returns.Goals as goal
+use Rattle.trail_check.proofs.rules.returns.Goals as goal
 
 pub returns-in-default-exit : goal.returns-in-default-exit
 returns-in-default-exit g c =

@@ -5,9 +5,9 @@ use Rattle.paths.specs.Check.{Spot, nowhere, at_spot}
 use Rattle.moves.specs.declared.moves.Kind.{Kind}
 use Rattle.moves.specs.declared.moves.Kind.TheVariants as kind
 use Rattle.stack.specs.Stack.{held}
-use Rattle.check.specs.declared.fault.Fault.{Fault}
-use Rattle.check.specs.declared.rules.Place.{Place}
-use Rattle.check.specs.Faults.{number_of, place_of}
+use Rattle.trail_check.specs.declared.fault.Fault.{Fault}
+use Rattle.trail_check.specs.declared.rules.Place.{Place}
+use Rattle.trail_check.specs.Faults.{number_of, place_of}
 
 -- the number and the place of a no, if there is one
 abbrev pub told : Result (Unit {0}) Fault → Option (ℕ × ℕ)

@@ -2,9 +2,9 @@ use Rattle.std.proofs.Common.{◌≡◌, ◌+◌, ◌≤◌, [], length, drop, S
 use Rattle.std.proofs.lemmas.List.{at_drop_all, nil_from_length}
 use Rattle.paths.specs.Checked.{stuck, check_no}
 use Rattle.paths.specs.Does.{handed}
-use Rattle.check.specs.Handing.{open_in, spot_at}
-use Rattle.check.proofs.Strays.{further, some_words, stray_here, stray_later, stray_first, verdict}
-use Rattle.check.proofs.trail.first_stray.Goals as goal
+use Rattle.trail_check.specs.Handing.{open_in, spot_at}
+use Rattle.trail_check.proofs.Strays.{further, some_words, stray_here, stray_later, stray_first, verdict}
+use Rattle.trail_check.proofs.trail.first_stray.Goals as goal
 
 pub loop-place-init : goal.loop-place-init
 loop-place-init g c =

@@ -3,7 +3,7 @@ use Rattle.paths.specs.Checked.{Verdict}
 use Rattle.paths.proofs.Stuck.{check_law}
 use Rattle.paths.specs.Does.{handed}
 use Rattle.paths.proofs.Callees.{sound}
-use Rattle.check.proofs.trail.check_trail.Goals as goal
+use Rattle.trail_check.proofs.trail.check_trail.Goals as goal
 
 pub returns : goal.returns
 returns g c =

@@ -1,6 +1,6 @@
 // Why a trail does not pass.
 ghost use Rattle.std.specs.Prelude.{◌≡◌};
-ghost use Rattle.check.specs.Faults.{number_of, place_of};
+ghost use Rattle.trail_check.specs.Faults.{number_of, place_of};
 
 #[derive(Clone, Copy, PartialEq, Eq, Debug)]
 pub enum Fault {

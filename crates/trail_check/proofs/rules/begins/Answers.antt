@@ -1,5 +1,5 @@
 use Rattle.paths.proofs.Callees.{home_entry}
-use Rattle.check.proofs.rules.begins.Goals as goal
+use Rattle.trail_check.proofs.rules.begins.Goals as goal
 
 pub returns-in-default-entry : goal.returns-in-default-entry
 returns-in-default-entry g c =

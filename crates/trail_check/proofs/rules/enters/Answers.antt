@@ -1,6 +1,6 @@
 use Rattle.std.proofs.Common.{Some, sym, ap, ◌∙◌}
 use Rattle.paths.proofs.Callees.{has_entry}
-use Rattle.check.proofs.rules.enters.Goals as goal
+use Rattle.trail_check.proofs.rules.enters.Goals as goal
 
 pub returns-in-default-entry : goal.returns-in-default-entry
 returns-in-default-entry g c =

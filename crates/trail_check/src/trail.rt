@@ -5,7 +5,7 @@ ghost use Rattle.paths.specs.Check.{move_on};
 ghost use Rattle.paths.specs.Supergraph.{graph_of};
 ghost use Rattle.paths.specs.Checked.{lead, check_no, Verdict};
 ghost use Rattle.paths.specs.Does.{handed};
-ghost use Rattle.check.specs.Handing.{told, open_in, spot_at, if_lawful, starting, Moved};
+ghost use Rattle.trail_check.specs.Handing.{told, open_in, spot_at, if_lawful, starting, Moved};
 
 use crate::fault::Fault;
 use crate::rules::{Place, begins, enters, passes, returns, steps};
