@@ -2,7 +2,7 @@
 mod indexing;
 mod lookups;
 
-pub(crate) use self::indexing::index_calls;
+pub use self::indexing::index_calls;
 use crate::procedures::{MOST_POINTS, MOST_PROCEDURES};
 
 // Stands where there is no call: no point has this number.

@@ -1,10 +1,9 @@
 // The questions about statements, in their order.
 ghost use Rattle.std.specs.Prelude.{◌≡◌, Some, None, MatchResult};
 ghost use Rattle.std.specs.Option.{option_map};
-ghost use Rattle.draft.specs.Index.{Describes, Threads};
+ghost use Rattle.draft.specs.Index.{Describes};
 ghost use Rattle.draft.specs.Rules.{breach, unended, asked};
 
-use crate::callers::{Callers, index_calls};
 use crate::interface::Draft;
 use crate::procedures::{Procedures, index, is_ret};
 use crate::question::{Breach, Question};
@@ -33,19 +32,10 @@ fn answer(question: Question, no: Option<Point>) -> Result<(), Breach>
     }
 }
 
-// What is found in a draft to which no question has a no.
-#[derive(Clone, Copy)]
-pub struct Index {
-    pub procedures: Procedures,
-    pub callers: Callers,
-}
-
-// Puts each question to every statement before the next: the index of procedures and calls, or the first no.
-pub fn examine<D: Draft>(draft: &D) -> Result<Index, Breach>
+// Puts each question to every statement before the next: the index of procedures, or the first no.
+pub fn examine<D: Draft>(draft: &D) -> Result<Procedures, Breach>
     ensures { MatchResult result
-        (λ found. Describes found.procedures (D.flow draft.now)
-        × Threads found.callers (D.flow draft.now)
-        × (breach (D.flow draft.now) (D.owned draft.now) ≡ None))
+        (λ ps. Describes ps (D.flow draft.now) × (breach (D.flow draft.now) (D.owned draft.now) ≡ None))
         (λ b. breach (D.flow draft.now) (D.owned draft.now) ≡ Some b) }
 {
     answer(Question::End, no_last_ret(draft))?;
@@ -75,8 +65,5 @@ pub fn examine<D: Draft>(draft: &D) -> Result<Index, Breach>
             },
         ),
     )?;
-    Ok(Index {
-        procedures,
-        callers: index_calls(draft),
-    })
+    Ok(procedures)
 }

@@ -20,7 +20,8 @@ fn callee_of(control: Option<Control>) -> Option<Proc>
 
 // Puts a call before the later ones of its procedure.
 fn link(first: &mut [u16], next: &mut [u16], n: Point, callee: Proc)
-    requires { (callee.0 < length first.old) × (n.0 < length next.old) }
+    requires callee { callee.0 < length first.old }
+    requires point { n.0 < length next.old }
     ensures heads { first.new ≡ slice_set first.old callee.0 n.0 }
     ensures leads { next.new ≡ slice_set next.old n.0 (slice_index first.old callee.0) }
 {
@@ -28,17 +29,18 @@ fn link(first: &mut [u16], next: &mut [u16], n: Point, callee: Proc)
     first[callee.0 as usize] = n.0;
 }
 
-// The index of a draft, found from its last call to its first.
-pub(crate) fn index_calls<D: Draft>(draft: &D) -> Callers
-    requires { Callable (D.flow draft.now) }
-    ensures { Threads result (D.flow draft.now) }
+// The index of a draft, found from its last call to its first. A call of no procedure that a program may have is passed over.
+pub fn index_calls<D: Draft>(draft: &D) -> Callers
+    ensures { Callable (D.flow draft.now) → Threads result (D.flow draft.now) }
 {
     let mut first = [NO_POINT; MOST_PROCEDURES];
     let mut next = [NO_POINT; MOST_POINTS];
     for n in (0..draft.points()).rev() {
         let n = Point(n);
         if let Some(callee) = callee_of(draft.control(n)) {
-            link(&mut first, &mut next, n, callee);
+            if (callee.0 as usize) < MOST_PROCEDURES {
+                link(&mut first, &mut next, n, callee);
+            }
         }
     }
     Callers { first, next }

@@ -1,10 +1,9 @@
-use Rattle.std.proofs.Common.{◌≡◌, None, sym, ap, ◌∙◌, arith}
+use Rattle.std.proofs.Common.{◌≡◌, None, sym, ap, ◌∙◌}
 use Rattle.std.specs.Option.{option_map}
 use Rattle.std.proofs.lemmas.Result.{err_from_is_err_and}
 use Rattle.listing.specs.Lawful.{exists}
 use Rattle.draft.specs.declared.question.Question.TheVariants as question
 use Rattle.draft.specs.Rules.{failing, unended, foreign, missing, or_else}
-use Rattle.draft.proofs.Calls.{callable}
 use Rattle.draft.proofs.Verdicts.{asked_yes, asked_no, asked_none, astray_is, at_cells}
 use Rattle.draft.proofs.examine.examine.Goals as goal
 
@@ -42,13 +41,6 @@ returns-in_err-answer-4 g c =
     ∙ (asked_yes question.Jumps _ _ _ (sym c.in_ok-answer-3.ensures) (c.first_breach-2.ensures ∙ astray_is c.in-Ok.found cs c.in-Ok.ensures.0)
     ∙ asked_no question.Callees _ _ _ _ (sym c.in_err-answer-4.ensures) (c.first_breach-3.ensures ∙ count))))
 
-pub index_calls-requires : goal.index_calls-requires
-index_calls-requires g c =
-    let cs = g.D.Draft.flow c.args.draft.now in
-    let d = c.in-Ok.ensures.0 in
-    callable cs c.count.result (omega (arith, c.count.ensures cs d, d.count, c.in-Ok.found.few))
-    (sym c.first_breach-3.ensures ∙ asked_none question.Callees _ (sym c.in_ok-answer-4.ensures))
-
 pub returns : goal.returns
 unfolding foreign missing
 returns g c =
@@ -56,7 +48,6 @@ returns g c =
     let ended = sym c.no_last_ret.ensures ∙ asked_none question.End _ (sym c.in_ok-answer.ensures) in
     let count = ap (λ k. failing (exists k) 0 cs) (c.count.ensures cs c.in-Ok.ensures.0) in (
       c.in-Ok.ensures.0,
-      c.index_calls.ensures,
       at_cells cs _ ended c.in-Ok.ensures.1
           ∙ (asked_yes question.Cells _ _ _ (sym c.in_ok-answer-2.ensures) c.first_breach.ensures
           ∙ (asked_yes question.Jumps _ _ _ (sym c.in_ok-answer-3.ensures) (c.first_breach-2.ensures ∙ astray_is c.in-Ok.found cs c.in-Ok.ensures.0)

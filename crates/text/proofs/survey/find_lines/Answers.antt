@@ -8,34 +8,34 @@ use Rattle.text.specs.Reading.{formed, misformed}
 use Rattle.text.proofs.survey.find_lines.Goals as goal
 use Rattle.text.proofs.survey.find_lines.Goals.{then-count-lt-MOST-LINES, else-count-lt-MOST-LINES}
 
-pub returns-then-not-has-form : goal.returns-then-not-has-form
+pub returns-then-not-has_form : goal.returns-then-not-has_form
 unfolding misformed
-returns-then-not-has-form c =
-    let here : drop c.loop-at.count (lines c.args.bytes.now) ≡ c.line-at-line.result.now ∷ lines (drop (c.loop-at.at + length c.line-at-line.result.now) c.args.bytes.now)
-    = sym c.loop-at.invariant.3 ∙ c.line-at-line.ensures.cuts in
-    sym c.loop-at.invariant.4 ∙ (ap (failing formed (c.loop-at.count + 1)) here ∙ cond-false _ _ _ (sym c.if-not-has-form.ensures))
+returns-then-not-has_form c =
+    let here : drop c.loop-at.count (lines c.args.bytes.now) ≡ c.line_at-line.result.now ∷ lines (drop (c.loop-at.at + length c.line_at-line.result.now) c.args.bytes.now)
+    = sym c.loop-at.invariant.3 ∙ c.line_at-line.ensures.cuts in
+    sym c.loop-at.invariant.4 ∙ (ap (failing formed (c.loop-at.count + 1)) here ∙ cond-false _ _ _ (sym c.if-not-has_form.ensures))
 
 pub loop-at-preserved : goal.loop-at-preserved
 loop-at-preserved c =
     let inv = c.loop-at.invariant in
     let n = c.loop-at.count in
     let all = lines c.args.bytes.now in
-    let here : drop c.loop-at.count (lines c.args.bytes.now) ≡ c.line-at-line.result.now ∷ lines (drop (c.loop-at.at + length c.line-at-line.result.now) c.args.bytes.now)
-    = sym c.loop-at.invariant.3 ∙ c.line-at-line.ensures.cuts in
-    let on : lines (drop (c.loop-at.at + length c.line-at-line.result.now) c.args.bytes.now) ≡ drop (c.loop-at.count + 1) (lines c.args.bytes.now)
+    let here : drop c.loop-at.count (lines c.args.bytes.now) ≡ c.line_at-line.result.now ∷ lines (drop (c.loop-at.at + length c.line_at-line.result.now) c.args.bytes.now)
+    = sym c.loop-at.invariant.3 ∙ c.line_at-line.ensures.cuts in
+    let on : lines (drop (c.loop-at.at + length c.line_at-line.result.now) c.args.bytes.now) ≡ drop (c.loop-at.count + 1) (lines c.args.bytes.now)
     = sym (ap (drop 1) here) ∙ drop-drop 1 n all in
     let left : failing formed (c.loop-at.count + 1 + 1) (drop (c.loop-at.count + 1) (lines c.args.bytes.now)) ≡ failing formed 1 (lines c.args.bytes.now)
     = ap (failing formed (n + 1 + 1)) (sym on)
-    ∙ (sym (ap (failing formed (n + 1)) here ∙ cond-true _ _ _ (sym c.if-not-has-form.ensures)) ∙ inv.4) in (
-      c.line-at-line.ensures.fits,
-      omega (arith, inv.1, c.line-at-line.ensures.some),
-      elim c.if-count-lt-MOST-LINES.branch [
+    ∙ (sym (ap (failing formed (n + 1)) here ∙ cond-true _ _ _ (sym c.if-not-has_form.ensures)) ∙ inv.4) in (
+      c.line_at-line.ensures.fits,
+      omega (arith, inv.1, c.line_at-line.ensures.some),
+      elim c.if-count-lt-MOST_LINES.branch [
         | then-count-lt-MOST-LINES w ↦ ap length w.starts-is ∙ (length-set _ _ _ ∙ inv.2)
         | else-count-lt-MOST-LINES w ↦ ap length w.starts-is ∙ inv.2
       ],
       on,
       left,
-      elim c.if-count-lt-MOST-LINES.branch [
+      elim c.if-count-lt-MOST_LINES.branch [
         | then-count-lt-MOST-LINES w ↦
             λ k h m.
             ap (λ xs. get_or xs k 0) w.starts-is
@@ -44,10 +44,10 @@ loop-at-preserved c =
             (λ s. get_or-set_same c.loop-at.starts n c.loop-at.at 0 (omega (arith, inv.2)) ∙ inv.7)
             k h m
         | else-count-lt-MOST-LINES w ↦
-            λ k h m. ap (λ xs. get_or xs k 0) w.starts-is ∙ inv.5 k (omega (arith, w.if-count-lt-MOST-LINES.false)) m
+            λ k h m. ap (λ xs. get_or xs k 0) w.starts-is ∙ inv.5 k (omega (arith, w.if-count-lt-MOST_LINES.false)) m
       ],
       omega (arith, ap length here, length-drop n all),
-      omega (arith, inv.7, place_more all _ n c.line-at-line.result.now here, ap (λ m. place m all) (add-one n)),
+      omega (arith, inv.7, place_more all _ n c.line_at-line.result.now here, ap (λ m. place m all) (add-one n)),
     )
 
 pub returns : goal.returns

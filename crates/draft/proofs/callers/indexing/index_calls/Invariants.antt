@@ -1,4 +1,5 @@
 use Rattle.std.proofs.Common.{◌≡◌, length}
+use Rattle.draft.specs.Index.{Callable}
 use Rattle.draft.proofs.Calls.{Threaded}
 use Rattle.draft.proofs.callers.indexing.index_calls.Given as goal
 
@@ -7,4 +8,4 @@ abbrev pub invariant-loop-n : goal.invariant-loop-n
 invariant-loop-n g l =
     (length l.first ≡ 60)
     × (length l.next ≡ 1000)
-    × Threaded (g.D.Draft.flow l.draft) l.first l.next l.n
+    × (Callable (g.D.Draft.flow l.draft) → Threaded (g.D.Draft.flow l.draft) l.first l.next l.n)

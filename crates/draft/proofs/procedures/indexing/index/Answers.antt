@@ -61,10 +61,10 @@ loop-n-preserved g c =
 
 pub invariant_of-result : goal.invariant_of-result
 invariant_of-result g c = record {
-      short = omega (arith, leb-true _ _ (g.D.Draft.few c.args.draft.now), c.points-points.ensures);
-      few = c.loop-n.invariant.2;
-      inside = λ p h. omega (arith, c.loop-n.invariant.6 p h);
-    }
+  short = omega (arith, leb-true _ _ (g.D.Draft.few c.args.draft.now), c.points-points.ensures);
+  few = c.loop-n.invariant.2;
+  inside = λ p h. omega (arith, c.loop-n.invariant.6 p h);
+}
 
 pub returns : goal.returns
 returns g c =

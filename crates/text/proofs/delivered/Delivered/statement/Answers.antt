@@ -19,8 +19,8 @@ bounds-self-n c =
     let t = c.args.self.now.bytes.now in
     omega (arith, c.args.self.now.counts, leb-true (length (flow_of t)) 1000 c.args.self.now.short, length-map (written t) controlled)
 
-pub line-at-requires : goal.line-at-requires
-line-at-requires c =
+pub line_at-requires : goal.line_at-requires
+line_at-requires c =
     let t = c.args.self.now.bytes.now in
     let at = c.args.self.now.placed c.args.n.0 c.if-n-self.false in
     let size = written_length t (none_from _ c.args.self.now.whole) in
@@ -31,6 +31,6 @@ returns c =
     let t = c.args.self.now.bytes.now in
     let n = c.args.n.0 in
     let at = c.args.self.now.placed n c.if-n-self.false in
-    let found = sym (place_lines (n + 1) t) ∙ (ap (λ p. lines (drop p t)) (sym at) ∙ c.line-at.ensures.cuts) in
-    c.statement-of.ensures.value
-    ∙ sym (written_nth t (none_from _ c.args.self.now.whole) n ∙ ap (λ o. then o statement) (nth_front (lines t) _ (n + 1) c.line-at.result.now found))
+    let found = sym (place_lines (n + 1) t) ∙ (ap (λ p. lines (drop p t)) (sym at) ∙ c.line_at.ensures.cuts) in
+    c.statement_of.ensures.value
+    ∙ sym (written_nth t (none_from _ c.args.self.now.whole) n ∙ ap (λ o. then o statement) (nth_front (lines t) _ (n + 1) c.line_at.result.now found))

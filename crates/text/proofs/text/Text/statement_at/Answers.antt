@@ -6,19 +6,19 @@ use Rattle.text.proofs.Lawful.{meant_nth}
 use Rattle.text.proofs.Meant.{yes_all}
 use Rattle.text.proofs.text.Text.statement_at.Goals as goal
 
-pub returns-in-err-statement : goal.returns-in-err-statement
-returns-in-err-statement c =
+pub returns-in_err-statement : goal.returns-in_err-statement
+returns-in_err-statement c =
     let x = c.args.self.now in
     let t = x.delivered.bytes.now in
-    c.from-residual.ensures
-    ∙ (ap (λ o. then o (renumbered t)) c.in-err-statement.ensures ∙ sym (meant_nth t (yes_all x) c.args.n.0))
+    c.from_residual.ensures
+    ∙ (ap (λ o. then o (renumbered t)) c.in_err-statement.ensures ∙ sym (meant_nth t (yes_all x) c.args.n.0))
 
 pub returns : goal.returns
 returns c =
     let x = c.args.self.now in
     let t = x.delivered.bytes.now in
-    let s = c.in-ok-statement.field-0 in
+    let s = c.in_ok-statement.field-0 in
     c.numbered.ensures
     ∙ (ap (λ g. numbered g x.delivered.cells.locals s) x.delivered.globals
     ∙ (ap (λ l. numbered (counted t).globals l s) x.delivered.locals
-    ∙ (ap (λ o. then o (renumbered t)) c.in-ok-statement.ensures ∙ sym (meant_nth t (yes_all x) c.args.n.0))))
+    ∙ (ap (λ o. then o (renumbered t)) c.in_ok-statement.ensures ∙ sym (meant_nth t (yes_all x) c.args.n.0))))
