@@ -33,7 +33,7 @@ impl fmt::Display for Heading {
 
 // The counts of a program, and a line for each procedure.
 fn description<P: Program>(heap: Global, program: &P) -> Result<String, AllocError>
-    ensures { IfOk result (λ s. string_bytes s ≡ described (meaning program.now)) }
+    ensures { IfOk result (λ s. string_bytes s ≡ described (P.meaning program.now)) }
 {
     let heading = Heading {
         counts: program.counts(),

@@ -45,8 +45,8 @@ fn is_call(statement: Option<Statement<Cell>>) -> bool
 
 // How many calls stand from a point up to an exit.
 fn count_calls<P: Program>(program: &P, entry: Point, exit: Point) -> u16
-    requires { exit.0 < size (meaning program.now) }
-    ensures { result ≡ calls_from (meaning program.now) entry.0 (exit.0 + 1 - entry.0) }
+    requires { exit.0 < size (P.meaning program.now) }
+    ensures { result ≡ calls_from (P.meaning program.now) entry.0 (exit.0 + 1 - entry.0) }
 {
     let mut count = 0;
     for n in entry.0..exit.0 + 1 {
@@ -59,8 +59,8 @@ fn count_calls<P: Program>(program: &P, entry: Point, exit: Point) -> u16
 
 // What is told of a procedure.
 pub(crate) fn section_of<P: Program>(program: &P, p: Proc) -> Section
-    requires { p.0 < procs (meaning program.now) }
-    ensures { result ≡ section (meaning program.now) p.0 }
+    requires { p.0 < procs (P.meaning program.now) }
+    ensures { result ≡ section (P.meaning program.now) p.0 }
 {
     let (Some(entry), Some(exit)) = (program.entry(p), program.exit(p)) else {
         unreachable()

@@ -26,10 +26,10 @@ fn work_off<P: Program, Q: Problem>(
     from: End,
     cells: u32,
 ) -> Result<String, AllocError>
-    requires points { (state table.old).points ≡ size (meaning program.now) }
-    requires facts { (state table.old).facts ≡ count problem.now }
-    requires cells { cells ≡ size (meaning program.now) * count problem.now * count problem.now }
-    ensures { IfOk result (λ s. WorkedOff (handed (meaning program.now) (relation problem.now) (count problem.now)) portion.size from (cells + 1) (state table.old) (string_bytes s) (state table.new)) }
+    requires points { (state table.old).points ≡ size (P.meaning program.now) }
+    requires facts { (state table.old).facts ≡ Q.count problem.now }
+    requires cells { cells ≡ size (P.meaning program.now) * Q.count problem.now * Q.count problem.now }
+    ensures { IfOk result (λ s. WorkedOff (handed (P.meaning program.now) (Q.relation problem.now) (Q.count problem.now)) portion.size from (cells + 1) (state table.old) (string_bytes s) (state table.new)) }
 {
     let mut out = String::new(heap);
     for _ in 0..cells + 1 {
@@ -57,7 +57,7 @@ fn seeded<P: Program, Q: Problem>(
     program: &P,
     problem: &Q,
 ) -> Result<OpenTable, AllocError>
-    ensures { IfOk result (λ t. Seeded (handed (meaning program.now) (relation problem.now) (count problem.now)) (starts problem.now) (state t)) }
+    ensures { IfOk result (λ t. Seeded (handed (P.meaning program.now) (Q.relation problem.now) (Q.count problem.now)) (Q.starts problem.now) (state t)) }
 {
     let memory = memory_for(heap, records_for(program, problem))?;
     let Ok(mut table) = OpenTable::open(memory, program, problem) else {
@@ -88,9 +88,9 @@ fn tell_all<P: Program, Q: Problem>(
     portion: Portion,
     from: End,
 ) -> Result<String, AllocError>
-    requires { Seeded (handed (meaning program.now) (relation problem.now) (count problem.now)) (starts problem.now) (state table) }
-    ensures text { IfOk result (λ s. string_bytes s ≡ progress (handed (meaning program.now) (relation problem.now) (count problem.now)) (starts problem.now) portion.size from) }
-    ensures law { IfOk result (λ s. EndsCounted (handed (meaning program.now) (relation problem.now) (count problem.now)) (starts problem.now) (string_bytes s)) }
+    requires { Seeded (handed (P.meaning program.now) (Q.relation problem.now) (Q.count problem.now)) (Q.starts problem.now) (state table) }
+    ensures text { IfOk result (λ s. string_bytes s ≡ progress (handed (P.meaning program.now) (Q.relation problem.now) (Q.count problem.now)) (Q.starts problem.now) portion.size from) }
+    ensures law { IfOk result (λ s. EndsCounted (handed (P.meaning program.now) (Q.relation problem.now) (Q.count problem.now)) (Q.starts problem.now) (string_bytes s)) }
 {
     let cells = records_for(program, problem);
     let mut out = work_off(heap, &mut table, program, problem, portion, from, cells)?;
@@ -108,8 +108,8 @@ pub fn tabulate<P: Program, Q: Problem>(
     portion: Portion,
     from: End,
 ) -> Result<String, AllocError>
-    ensures text { IfOk result (λ s. string_bytes s ≡ progress (handed (meaning program.now) (relation problem.now) (count problem.now)) (starts problem.now) portion.size from) }
-    ensures law { IfOk result (λ s. EndsCounted (handed (meaning program.now) (relation problem.now) (count problem.now)) (starts problem.now) (string_bytes s)) }
+    ensures text { IfOk result (λ s. string_bytes s ≡ progress (handed (P.meaning program.now) (Q.relation problem.now) (Q.count problem.now)) (Q.starts problem.now) portion.size from) }
+    ensures law { IfOk result (λ s. EndsCounted (handed (P.meaning program.now) (Q.relation problem.now) (Q.count problem.now)) (Q.starts problem.now) (string_bytes s)) }
 {
     let table = seeded(heap, program, problem)?;
     tell_all(heap, table, program, problem, portion, from)

@@ -20,8 +20,8 @@ fn tabulate_under<P: Program>(
     portion: Portion,
     from: End,
 ) -> Result<String, AllocError>
-    ensures text { IfOk result (λ s. string_bytes s ≡ chosen choice (meaning program.now) portion.size from) }
-    ensures law { IfOk result (λ s. ChosenCounted choice (meaning program.now) (string_bytes s)) }
+    ensures text { IfOk result (λ s. string_bytes s ≡ chosen choice (P.meaning program.now) portion.size from) }
+    ensures law { IfOk result (λ s. ChosenCounted choice (P.meaning program.now) (string_bytes s)) }
 {
     let counts = CellCounts::of(program);
     match choice {

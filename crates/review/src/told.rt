@@ -17,7 +17,7 @@ fn review_under<P: Program>(
     choice: Choice,
     words: &[u32],
 ) -> Result<String, AllocError>
-    ensures { IfOk result (λ s. string_bytes s ≡ chosen choice (meaning program.now) words.now) }
+    ensures { IfOk result (λ s. string_bytes s ≡ chosen choice (P.meaning program.now) words.now) }
 {
     let counts = CellCounts::of(program);
     match choice {

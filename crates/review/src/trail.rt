@@ -20,7 +20,7 @@ fn move_lines<Q: Problem<Item = Cell>>(
     problem: &Q,
     words: &[u32],
 ) -> Result<String, AllocError>
-    ensures { IfOk result (λ s. string_bytes s ≡ lines_of (stands problem.now) 0 words.now) }
+    ensures { IfOk result (λ s. string_bytes s ≡ lines_of (Q.stands problem.now) 0 words.now) }
 {
     let mut out = String::new(heap);
     let mut height = 0;
@@ -51,7 +51,7 @@ fn checked<P: Program, Q: Problem>(
     words: &[u32],
 ) -> Result<Result<(), Fault>, AllocError>
     ensures { IfOk result
-        (λ a. told a ≡ check_no (handed (meaning program.now) (relation problem.now) (count problem.now)) words.now (length words.now)) }
+        (λ a. told a ≡ check_no (handed (P.meaning program.now) (Q.relation problem.now) (Q.count problem.now)) words.now (length words.now)) }
 {
     let mut calls = vec![in heap; Point(0); words.len()]?;
     Ok(check_trail(program, problem, words, calls.as_mut_slice()))
@@ -82,8 +82,8 @@ pub fn review<P: Program, Q: Problem<Item = Cell>>(
     words: &[u32],
 ) -> Result<String, AllocError>
     ensures { IfOk result
-        (λ s. string_bytes s ≡ reviewed (stands problem.now) words.now
-        (check_no (handed (meaning program.now) (relation problem.now) (count problem.now)) words.now (length words.now))) }
+        (λ s. string_bytes s ≡ reviewed (Q.stands problem.now) words.now
+        (check_no (handed (P.meaning program.now) (Q.relation problem.now) (Q.count problem.now)) words.now (length words.now))) }
 {
     let answer = checked(heap, program, problem, words)?;
     let mut out = move_lines(heap, problem, lawful_part(words, answer))?;

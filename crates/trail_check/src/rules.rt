@@ -39,8 +39,8 @@ pub(crate) fn steps<P: Program, Q: Problem>(
     from: Place,
     to: Place,
 ) -> bool
-    ensures { result ≡ step_ok (graph_of (meaning program.now)) (relation problem.now) (size (meaning program.now)) (count problem.now)
-        (shape ((graph_of (meaning program.now)).at from.point.0)) from.point.0 from.fact.0 to.point.0 to.fact.0 }
+    ensures { result ≡ step_ok (graph_of (P.meaning program.now)) (Q.relation problem.now) (size (P.meaning program.now)) (Q.count problem.now)
+        (shape ((graph_of (P.meaning program.now)).at from.point.0)) from.point.0 from.fact.0 to.point.0 to.fact.0 }
 {
     let Some(statement) = program.statement(from.point) else {
         return false;
@@ -63,8 +63,8 @@ pub(crate) fn passes<P: Program, Q: Problem>(
     from: Place,
     to: Place,
 ) -> bool
-    ensures { result ≡ past_ok (graph_of (meaning program.now)) (relation problem.now) (size (meaning program.now)) (count problem.now)
-        (shape ((graph_of (meaning program.now)).at from.point.0)) from.point.0 from.fact.0 to.point.0 to.fact.0 }
+    ensures { result ≡ past_ok (graph_of (P.meaning program.now)) (Q.relation problem.now) (size (P.meaning program.now)) (Q.count problem.now)
+        (shape ((graph_of (P.meaning program.now)).at from.point.0)) from.point.0 from.fact.0 to.point.0 to.fact.0 }
 {
     let Some(statement) = program.statement(from.point) else {
         return false;
@@ -97,8 +97,8 @@ pub(crate) fn enters<P: Program, Q: Problem>(
     from: Place,
     to: Place,
 ) -> bool
-    ensures { result ≡ call_ok (graph_of (meaning program.now)) (relation problem.now) (size (meaning program.now)) (count problem.now)
-        (shape ((graph_of (meaning program.now)).at from.point.0)) from.point.0 from.fact.0 to.point.0 to.fact.0 }
+    ensures { result ≡ call_ok (graph_of (P.meaning program.now)) (Q.relation problem.now) (size (P.meaning program.now)) (Q.count problem.now)
+        (shape ((graph_of (P.meaning program.now)).at from.point.0)) from.point.0 from.fact.0 to.point.0 to.fact.0 }
 {
     let Some(statement) = program.statement(from.point) else {
         return false;
@@ -128,8 +128,8 @@ pub(crate) fn returns<P: Program, Q: Problem>(
     from: Place,
     to: Place,
 ) -> bool
-    ensures { result ≡ return_ok (graph_of (meaning program.now)) (relation problem.now) (size (meaning program.now)) (count problem.now)
-        (shape ((graph_of (meaning program.now)).at call.0)) (shape ((graph_of (meaning program.now)).at from.point.0))
+    ensures { result ≡ return_ok (graph_of (P.meaning program.now)) (Q.relation problem.now) (size (P.meaning program.now)) (Q.count problem.now)
+        (shape ((graph_of (P.meaning program.now)).at call.0)) (shape ((graph_of (P.meaning program.now)).at from.point.0))
         call.0 from.point.0 from.fact.0 to.point.0 to.fact.0 }
 {
     let Some(statement) = program.statement(call) else {
@@ -162,7 +162,7 @@ pub(crate) fn returns<P: Program, Q: Problem>(
 
 // A start: the entry of a procedure, with a fact.
 pub(crate) fn begins<P: Program, Q: Problem>(program: &P, problem: &Q, to: Place) -> bool
-    ensures { result ≡ start_ok (graph_of (meaning program.now)) (size (meaning program.now)) (count problem.now) to.point.0 to.fact.0 }
+    ensures { result ≡ start_ok (graph_of (P.meaning program.now)) (size (P.meaning program.now)) (Q.count problem.now) to.point.0 to.fact.0 }
 {
     if to.fact.0 >= problem.facts() {
         return false;

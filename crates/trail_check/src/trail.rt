@@ -32,7 +32,7 @@ fn go_on<P: Program, Q: Problem>(
     height: &mut usize,
 ) -> Option<Place>
     requires { height.old < length calls.old }
-    ensures leads { Moved (move_on (graph_of (meaning program.now)) (relation problem.now) (size (meaning program.now)) (count problem.now)
+    ensures leads { Moved (move_on (graph_of (P.meaning program.now)) (Q.relation problem.now) (size (P.meaning program.now)) (Q.count problem.now)
         kind (open_in calls.old height.old) from.point.0 from.fact.0 to.point.0 to.fact.0)
         result (open_in calls.new height.new) }
     ensures within { height.new ≤ height.old + 1 }
@@ -62,7 +62,7 @@ fn follow<P: Program, Q: Problem>(
     height: &mut usize,
 ) -> Option<Place>
     requires { height.old < length calls.old }
-    ensures leads { Moved (lead (handed (meaning program.now) (relation problem.now) (count problem.now))
+    ensures leads { Moved (lead (handed (P.meaning program.now) (Q.relation problem.now) (Q.count problem.now))
         (spot_at at (open_in calls.old height.old)) word)
         result (open_in calls.new height.new) }
     ensures within { height.new ≤ height.old + 1 }
@@ -98,8 +98,8 @@ pub fn check_trail<P: Program, Q: Problem>(
     words: &[u32],
     calls: &mut [Point],
 ) -> Result<(), Fault>
-    ensures value { told result ≡ check_no (handed (meaning program.now) (relation problem.now) (count problem.now)) words.now (length calls.old) }
-    ensures law { Verdict (handed (meaning program.now) (relation problem.now) (count problem.now)) words.now (length calls.old) (told result) }
+    ensures value { told result ≡ check_no (handed (P.meaning program.now) (Q.relation problem.now) (Q.count problem.now)) words.now (length calls.old) }
+    ensures law { Verdict (handed (P.meaning program.now) (Q.relation problem.now) (Q.count problem.now)) words.now (length calls.old) (told result) }
 {
     first_stray(program, problem, words, calls)
 }
@@ -110,7 +110,7 @@ fn first_stray<P: Program, Q: Problem>(
     words: &[u32],
     calls: &mut [Point],
 ) -> Result<(), Fault>
-    ensures { told result ≡ check_no (handed (meaning program.now) (relation problem.now) (count problem.now)) words.now (length calls.old) }
+    ensures { told result ≡ check_no (handed (P.meaning program.now) (Q.relation problem.now) (Q.count problem.now)) words.now (length calls.old) }
 {
     if calls.len() < words.len() {
         return Err(Fault::Room);

@@ -13,11 +13,11 @@ use moves::moves::Kind;
 impl Core {
     // Spreads a call to the point after it.
     fn pass<Q: Problem>(&mut self, problem: &Q, x: Site)
-        requires facts { self.old.facts ≡ count problem.now }
+        requires facts { self.old.facts ≡ Q.count problem.now }
         requires stands { Stands self.old x }
         requires next { x.spot.point.0 + 1 < self.old.points }
         ensures kept { Kept self.old self.new }
-        ensures after { inner self.new ≡ passes (relation problem.now) (count problem.now) x (inner self.old) }
+        ensures after { inner self.new ≡ passes (Q.relation problem.now) (Q.count problem.now) x (inner self.old) }
     {
         let edge = Edge::Past {
             at: x.spot.point,
@@ -34,14 +34,14 @@ impl Core {
 
     // Returns to a call from a cell of its callee's exit, if that cell is found.
     fn come_back<Q: Problem>(&mut self, problem: &Q, x: Site, callee: Callee, e: Fact, z: Fact)
-        requires facts { self.old.facts ≡ count problem.now }
+        requires facts { self.old.facts ≡ Q.count problem.now }
         requires stands { Stands self.old x }
         requires next { x.spot.point.0 + 1 < self.old.points }
         requires callable { Callable self.old.points callee }
         requires entered { e.0 < self.old.facts }
         requires left { z.0 < self.old.facts }
         ensures kept { Kept self.old self.new }
-        ensures after { inner self.new ≡ comes_back (relation problem.now) (count problem.now) x callee e.0 z.0 (inner self.old) }
+        ensures after { inner self.new ≡ comes_back (Q.relation problem.now) (Q.count problem.now) x callee e.0 z.0 (inner self.old) }
     {
         let exit = self.number(Spot {
             point: callee.exit,
@@ -66,13 +66,13 @@ impl Core {
 
     // Returns to a call from wherever its callee has got with a fact.
     fn all_come_back<Q: Problem>(&mut self, problem: &Q, x: Site, callee: Callee, e: Fact)
-        requires facts { self.old.facts ≡ count problem.now }
+        requires facts { self.old.facts ≡ Q.count problem.now }
         requires stands { Stands self.old x }
         requires next { x.spot.point.0 + 1 < self.old.points }
         requires callable { Callable self.old.points callee }
         requires entered { e.0 < self.old.facts }
         ensures kept { Kept self.old self.new }
-        ensures after { inner self.new ≡ all_come_back (relation problem.now) (count problem.now) x callee e.0 (inner self.old) }
+        ensures after { inner self.new ≡ all_come_back (Q.relation problem.now) (Q.count problem.now) x callee e.0 (inner self.old) }
     {
         for z in 0..self.facts {
             self.come_back(problem, x, callee, e, Fact(z));
@@ -102,13 +102,13 @@ impl Core {
 
     // Enters the callee with a fact, and at once returns from where the callee has got with it.
     fn enter_at<Q: Problem>(&mut self, problem: &Q, x: Site, callee: Callee, e: Fact)
-        requires facts { self.old.facts ≡ count problem.now }
+        requires facts { self.old.facts ≡ Q.count problem.now }
         requires stands { Stands self.old x }
         requires next { x.spot.point.0 + 1 < self.old.points }
         requires callable { Callable self.old.points callee }
         requires entered { e.0 < self.old.facts }
         ensures kept { Kept self.old self.new }
-        ensures after { inner self.new ≡ enters_at (relation problem.now) (count problem.now) x callee e.0 (inner self.old) }
+        ensures after { inner self.new ≡ enters_at (Q.relation problem.now) (Q.count problem.now) x callee e.0 (inner self.old) }
     {
         self.enter_entry(x, callee, e);
         self.all_come_back(problem, x, callee, e);
@@ -116,13 +116,13 @@ impl Core {
 
     // Enters the callee with a fact, if it follows.
     fn enter_with<Q: Problem>(&mut self, problem: &Q, x: Site, callee: Callee, e: Fact)
-        requires facts { self.old.facts ≡ count problem.now }
+        requires facts { self.old.facts ≡ Q.count problem.now }
         requires stands { Stands self.old x }
         requires next { x.spot.point.0 + 1 < self.old.points }
         requires callable { Callable self.old.points callee }
         requires entered { e.0 < self.old.facts }
         ensures kept { Kept self.old self.new }
-        ensures after { inner self.new ≡ enters (relation problem.now) (count problem.now) x callee e.0 (inner self.old) }
+        ensures after { inner self.new ≡ enters (Q.relation problem.now) (Q.count problem.now) x callee e.0 (inner self.old) }
     {
         let edge = Edge::Call {
             at: x.spot.point,
@@ -135,12 +135,12 @@ impl Core {
 
     // Enters the callee with each fact that follows.
     fn enter_callee<Q: Problem>(&mut self, problem: &Q, x: Site, callee: Callee)
-        requires facts { self.old.facts ≡ count problem.now }
+        requires facts { self.old.facts ≡ Q.count problem.now }
         requires stands { Stands self.old x }
         requires next { x.spot.point.0 + 1 < self.old.points }
         requires callable { Callable self.old.points callee }
         ensures kept { Kept self.old self.new }
-        ensures after { inner self.new ≡ all_enter (relation problem.now) (count problem.now) x callee (inner self.old) }
+        ensures after { inner self.new ≡ all_enter (Q.relation problem.now) (Q.count problem.now) x callee (inner self.old) }
     {
         for e in 0..self.facts {
             self.enter_with(problem, x, callee, Fact(e));
@@ -149,12 +149,12 @@ impl Core {
 
     // Settles a call: past it first, then into the callee.
     pub(super) fn settle_call<Q: Problem>(&mut self, problem: &Q, x: Site, callee: Callee)
-        requires facts { self.old.facts ≡ count problem.now }
+        requires facts { self.old.facts ≡ Q.count problem.now }
         requires stands { Stands self.old x }
         requires next { x.spot.point.0 + 1 < self.old.points }
         requires callable { Callable self.old.points callee }
         ensures kept { Kept self.old self.new }
-        ensures after { inner self.new ≡ all_enter (relation problem.now) (count problem.now) x callee (passes (relation problem.now) (count problem.now) x (inner self.old)) }
+        ensures after { inner self.new ≡ all_enter (Q.relation problem.now) (Q.count problem.now) x callee (passes (Q.relation problem.now) (Q.count problem.now) x (inner self.old)) }
     {
         self.pass(problem, x);
         self.enter_callee(problem, x, callee);

@@ -32,7 +32,7 @@ fn cells_of(points: u16, facts: u8) -> u32
 
 // How many records a table of a program and a problem needs.
 pub fn records_for<P: Program, Q: Problem>(program: &P, problem: &Q) -> u32
-    ensures { result ≡ size (meaning program.now) * count problem.now * count problem.now }
+    ensures { result ≡ size (P.meaning program.now) * Q.count problem.now * Q.count problem.now }
 {
     let points = program.counts().points;
     cells_of(points, problem.facts())
@@ -40,15 +40,15 @@ pub fn records_for<P: Program, Q: Problem>(program: &P, problem: &Q) -> u32
 
 // Whether a memory has a record for each cell.
 fn has_room<P: Program, Q: Problem>(memory: &Vec<Record>, program: &P, problem: &Q) -> bool
-    ensures { result ≡ room_for (handed (meaning program.now) (relation problem.now) (count problem.now)) (map rec memory.now.items) }
+    ensures { result ≡ room_for (handed (P.meaning program.now) (Q.relation problem.now) (Q.count problem.now)) (map rec memory.now.items) }
 {
     cells_of(program.counts().points, problem.facts()) as usize <= memory.len()
 }
 
 // A table in a memory whose first records are cleared.
 fn cleared<P: Program, Q: Problem>(memory: Vec<Record>, program: &P, problem: &Q) -> Core
-    requires { room_for (handed (meaning program.now) (relation problem.now) (count problem.now)) (map rec memory.items) ≡ true }
-    ensures { NewlyMade (handed (meaning program.now) (relation problem.now) (count problem.now)) memory result }
+    requires { room_for (handed (P.meaning program.now) (Q.relation problem.now) (Q.count problem.now)) (map rec memory.items) ≡ true }
+    ensures { NewlyMade (handed (P.meaning program.now) (Q.relation problem.now) (Q.count problem.now)) memory result }
 {
     let points = program.counts().points;
     let facts = problem.facts();
@@ -74,7 +74,7 @@ impl Staged<OPEN> {
         program: &P,
         problem: &Q,
     ) -> Result<OpenTable, Refusal<Vec<Record>>>
-        ensures { Opens (handed (meaning program.now) (relation problem.now) (count problem.now)) memory result }
+        ensures { Opens (handed (P.meaning program.now) (Q.relation problem.now) (Q.count problem.now)) memory result }
     {
         if !has_room(&memory, program, problem) {
             return Err(Refusal {

@@ -25,13 +25,13 @@ impl Core {
         b: Fact,
         f: Fact,
     )
-        requires facts { self.old.facts ≡ count problem.now }
+        requires facts { self.old.facts ≡ Q.count problem.now }
         requires stands { Stands self.old x }
         requires next { call.at.0 + 1 < self.old.points }
         requires origin { b.0 < self.old.facts }
         requires fact { f.0 < self.old.facts }
         ensures kept { Kept self.old self.new }
-        ensures after { inner self.new ≡ answers_cell (relation problem.now) (count problem.now) x res call b.0 f.0 (inner self.old) }
+        ensures after { inner self.new ≡ answers_cell (Q.relation problem.now) (Q.count problem.now) x res call b.0 f.0 (inner self.old) }
     {
         let cell = self.number(Spot {
             point: call.at,
@@ -60,12 +60,12 @@ impl Core {
 
     // Returns to the cells of a call under one origin.
     fn answer_row<Q: Problem>(&mut self, problem: &Q, x: Site, res: Cell, call: Caller, b: Fact)
-        requires facts { self.old.facts ≡ count problem.now }
+        requires facts { self.old.facts ≡ Q.count problem.now }
         requires stands { Stands self.old x }
         requires next { call.at.0 + 1 < self.old.points }
         requires origin { b.0 < self.old.facts }
         ensures kept { Kept self.old self.new }
-        ensures after { inner self.new ≡ answers_row (relation problem.now) (count problem.now) x res call b.0 (inner self.old) }
+        ensures after { inner self.new ≡ answers_row (Q.relation problem.now) (Q.count problem.now) x res call b.0 (inner self.old) }
     {
         for f in 0..self.facts {
             self.answer_cell(problem, x, res, call, b, Fact(f));
@@ -74,11 +74,11 @@ impl Core {
 
     // Returns to the cells of a call.
     fn answer_call<Q: Problem>(&mut self, problem: &Q, x: Site, res: Cell, call: Caller)
-        requires facts { self.old.facts ≡ count problem.now }
+        requires facts { self.old.facts ≡ Q.count problem.now }
         requires stands { Stands self.old x }
         requires next { call.at.0 + 1 < self.old.points }
         ensures kept { Kept self.old self.new }
-        ensures after { inner self.new ≡ answers (relation problem.now) (count problem.now) x res call (inner self.old) }
+        ensures after { inner self.new ≡ answers (Q.relation problem.now) (Q.count problem.now) x res call (inner self.old) }
     {
         for b in 0..self.facts {
             self.answer_row(problem, x, res, call, Fact(b));
@@ -93,11 +93,11 @@ impl Core {
         x: Site,
         res: Cell,
     )
-        requires points { self.old.points ≡ size (meaning program.now) }
-        requires facts { self.old.facts ≡ count problem.now }
+        requires points { self.old.points ≡ size (P.meaning program.now) }
+        requires facts { self.old.facts ≡ Q.count problem.now }
         requires stands { Stands self.old x }
         ensures kept { Kept self.old self.new }
-        ensures after { inner self.new ≡ caller_each (graph_of (meaning program.now)) (relation problem.now) (size (meaning program.now)) (count problem.now) res (cell_of x.spot) (inner self.old) }
+        ensures after { inner self.new ≡ caller_each (graph_of (P.meaning program.now)) (Q.relation problem.now) (size (P.meaning program.now)) (Q.count problem.now) res (cell_of x.spot) (inner self.old) }
     {
         let Some(home) = program.procedure_of(x.spot.point) else {
             return;

@@ -15,7 +15,7 @@ use listing::statement::Statement;
 
 // Where a procedure is entered and left, and what it returns.
 fn callee_of<P: Program>(program: &P, p: Proc) -> Option<Callee>
-    ensures { Calls (meaning program.now) p result }
+    ensures { Calls (P.meaning program.now) p result }
 {
     let entry = program.entry(p)?;
     let exit = program.exit(p)?;
@@ -32,11 +32,11 @@ fn callee_of<P: Program>(program: &P, p: Proc) -> Option<Callee>
 impl Core {
     // Settles a cell: finds what follows from it at once.
     pub(super) fn settle<P: Program, Q: Problem>(&mut self, program: &P, problem: &Q, cell: u32)
-        requires points { self.old.points ≡ size (meaning program.now) }
-        requires facts { self.old.facts ≡ count problem.now }
+        requires points { self.old.points ≡ size (P.meaning program.now) }
+        requires facts { self.old.facts ≡ Q.count problem.now }
         requires found { Found self.old cell }
         ensures kept { Kept self.old self.new }
-        ensures after { inner self.new ≡ settle (graph_of (meaning program.now)) (relation problem.now) (size (meaning program.now)) (count problem.now) (cell_at (count problem.now) cell) (inner self.old) }
+        ensures after { inner self.new ≡ settle (graph_of (P.meaning program.now)) (Q.relation problem.now) (size (P.meaning program.now)) (Q.count problem.now) (cell_at (Q.count problem.now) cell) (inner self.old) }
     {
         let spot = self.spot(cell);
         let Some(statement) = program.statement(spot.point) else {

@@ -14,11 +14,11 @@ use moves::moves::Kind;
 impl Core {
     // Spreads a site to one of its successors.
     fn step_to<Q: Problem>(&mut self, problem: &Q, x: Site, to: Point)
-        requires facts { self.old.facts ≡ count problem.now }
+        requires facts { self.old.facts ≡ Q.count problem.now }
         requires stands { Stands self.old x }
         requires point { to.0 < self.old.points }
         ensures kept { Kept self.old self.new }
-        ensures after { inner self.new ≡ step_to (relation problem.now) (count problem.now) x to.0 (inner self.old) }
+        ensures after { inner self.new ≡ step_to (Q.relation problem.now) (Q.count problem.now) x to.0 (inner self.old) }
     {
         let edge = Edge::Step {
             at: x.spot.point,
@@ -34,11 +34,11 @@ impl Core {
 
     // Spreads a site to each of its successors, in their order.
     pub(super) fn settle_plain<Q: Problem>(&mut self, problem: &Q, x: Site)
-        requires facts { self.old.facts ≡ count problem.now }
+        requires facts { self.old.facts ≡ Q.count problem.now }
         requires stands { Stands self.old x }
         requires onward { Onward self.old.points x.spot.point.0 x.statement }
         ensures kept { Kept self.old self.new }
-        ensures after { inner self.new ≡ steps (relation problem.now) (count problem.now) x (inner self.old) }
+        ensures after { inner self.new ≡ steps (Q.relation problem.now) (Q.count problem.now) x (inner self.old) }
     {
         let next = Point(x.spot.point.0 + 1);
         match x.statement.control() {

@@ -21,7 +21,7 @@ use records::fault::Fault;
 
 // The entry of a procedure, if the program has it.
 fn entry_of<P: Program>(program: &P, p: Proc) -> Option<Point>
-    ensures { Enters (meaning program.now) p result }
+    ensures { Enters (P.meaning program.now) p result }
 {
     program.entry(p)
 }
@@ -29,8 +29,8 @@ fn entry_of<P: Program>(program: &P, p: Proc) -> Option<Point>
 impl Core {
     // Whether N and F are the table's.
     fn same_counts<P: Program, Q: Problem>(&self, program: &P, problem: &Q) -> bool
-        ensures value { result ≡ counts_fit (handed (meaning program.now) (relation problem.now) (count problem.now)) (inner self.now) }
-        ensures same { result ≡ true → SameCounts self.now (size (meaning program.now)) (count problem.now) }
+        ensures value { result ≡ counts_fit (handed (P.meaning program.now) (Q.relation problem.now) (Q.count problem.now)) (inner self.now) }
+        ensures same { result ≡ true → SameCounts self.now (size (P.meaning program.now)) (Q.count problem.now) }
     {
         program.counts().points == self.points && problem.facts() == self.facts
     }
@@ -66,13 +66,13 @@ impl Core {
         k: u32,
         end: End,
     ) -> u32
-        requires points { self.old.points ≡ size (meaning program.now) }
-        requires facts { self.old.facts ≡ count problem.now }
+        requires points { self.old.points ≡ size (P.meaning program.now) }
+        requires facts { self.old.facts ≡ Q.count problem.now }
         ensures count { result ≡ (inner self.new).settled - (inner self.old).settled }
-        ensures after { inner self.new ≡ work (graph_of (meaning program.now)) (relation problem.now) (size (meaning program.now)) (count problem.now) k end (inner self.old) }
+        ensures after { inner self.new ≡ work (graph_of (P.meaning program.now)) (Q.relation problem.now) (size (P.meaning program.now)) (Q.count problem.now) k end (inner self.old) }
         ensures counts { CountsStay (inner self.old) (inner self.new) }
         ensures stops { Stops k result (inner self.new).waiting }
-        ensures portions { Portions (handed (meaning program.now) (relation problem.now) (count problem.now)) k end (inner self.old) (inner self.new) }
+        ensures portions { Portions (handed (P.meaning program.now) (Q.relation problem.now) (Q.count problem.now)) k end (inner self.old) (inner self.new) }
         ensures spare { spare self.new ≡ spare self.old }
     {
         let mut done = 0;
@@ -96,7 +96,7 @@ impl Staged<OPEN> {
         p: Proc,
         d: Fact,
     ) -> Result<bool, Fault>
-        ensures sows { Sows (handed (meaning program.now) (relation problem.now) (count problem.now)) p.0 d.0 (state self.old) (sown result) (state self.new) }
+        ensures sows { Sows (handed (P.meaning program.now) (Q.relation problem.now) (Q.count problem.now)) p.0 d.0 (state self.old) (sown result) (state self.new) }
         ensures counts { CountsStay (state self.old) (state self.new) }
         ensures refused { OnErr result (self.new ≡ self.old) }
         ensures spare { spare self.new.core ≡ spare self.old.core }
@@ -121,10 +121,10 @@ impl Staged<OPEN> {
         k: u32,
         end: End,
     ) -> Result<u32, Fault>
-        ensures works { Works (handed (meaning program.now) (relation problem.now) (count problem.now)) k end (state self.old) (worked result) (state self.new) }
+        ensures works { Works (handed (P.meaning program.now) (Q.relation problem.now) (Q.count problem.now)) k end (state self.old) (worked result) (state self.new) }
         ensures counts { CountsStay (state self.old) (state self.new) }
         ensures stops { IfOk result (λ n. Stops k n (state self.new).waiting) }
-        ensures portions { OnOk result (Portions (handed (meaning program.now) (relation problem.now) (count problem.now)) k end (state self.old) (state self.new)) }
+        ensures portions { OnOk result (Portions (handed (P.meaning program.now) (Q.relation problem.now) (Q.count problem.now)) k end (state self.old) (state self.new)) }
         ensures refused { OnErr result (self.new ≡ self.old) }
         ensures spare { spare self.new.core ≡ spare self.old.core }
     {
