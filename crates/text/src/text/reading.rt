@@ -8,6 +8,7 @@ ghost use Rattle.text.specs.Reading.{on_line, meaning_of, refused, accepted, ans
 use crate::delivered::Delivered;
 use crate::survey::survey_of;
 use crate::text::Text;
+use draft::callers::index_calls;
 use draft::examine::examine;
 use draft::question::{Breach, Refusal};
 use listing::counts::Counts;
@@ -46,13 +47,14 @@ impl<'a> Text<'a> {
             points: survey.points,
             cells: survey.cells,
         };
-        let Ok(index) = examine(&delivered) else {
+        let Ok(procedures) = examine(&delivered) else {
             unreachable()
         };
+        let callers = index_calls(&delivered);
         Text {
             delivered,
-            procedures: index.procedures,
-            callers: index.callers,
+            procedures,
+            callers,
         }
     }
 
@@ -77,14 +79,15 @@ impl<'a> Text<'a> {
             points: survey.points,
             cells: survey.cells,
         };
-        let index = match examine(&delivered) {
+        let procedures = match examine(&delivered) {
             Ok(found) => found,
             Err(breach) => return Err(at_line(breach)),
         };
+        let callers = index_calls(&delivered);
         let text = Text {
             delivered,
-            procedures: index.procedures,
-            callers: index.callers,
+            procedures,
+            callers,
         };
         let counts = text.counts();
         *self = text;

@@ -6,7 +6,7 @@ use Rattle.text.specs.Lines.{lines, place}
 use Rattle.text.proofs.Places.{place_more}
 use Rattle.text.specs.Reading.{formed, misformed}
 use Rattle.text.proofs.survey.find_lines.Goals as goal
-use Rattle.text.proofs.survey.find_lines.Goals.{then-count-lt-MOST-LINES, else-count-lt-MOST-LINES}
+use Rattle.text.proofs.survey.find_lines.Goals.{then-count-lt-MOST_LINES, else-count-lt-MOST_LINES}
 
 pub returns-then-not-has_form : goal.returns-then-not-has_form
 unfolding misformed
@@ -30,20 +30,20 @@ loop-at-preserved c =
       c.line_at-line.ensures.fits,
       omega (arith, inv.1, c.line_at-line.ensures.some),
       elim c.if-count-lt-MOST_LINES.branch [
-        | then-count-lt-MOST-LINES w ↦ ap length w.starts-is ∙ (length-set _ _ _ ∙ inv.2)
-        | else-count-lt-MOST-LINES w ↦ ap length w.starts-is ∙ inv.2
+        | then-count-lt-MOST_LINES w ↦ ap length w.starts-is ∙ (length-set _ _ _ ∙ inv.2)
+        | else-count-lt-MOST_LINES w ↦ ap length w.starts-is ∙ inv.2
       ],
       on,
       left,
       elim c.if-count-lt-MOST_LINES.branch [
-        | then-count-lt-MOST-LINES w ↦
+        | then-count-lt-MOST_LINES w ↦
             λ k h m.
             ap (λ xs. get_or xs k 0) w.starts-is
             ∙ below_more (λ (j : ℕ). j < 1001 → get_or (set c.loop-at.starts n c.loop-at.at) j 0 ≡ place j all) n
             (λ j l s. let ne : j ≢ c.loop-at.count = omega arith in get_or-set_other c.loop-at.starts n j c.loop-at.at 0 ne ∙ inv.5 j l s)
             (λ s. get_or-set_same c.loop-at.starts n c.loop-at.at 0 (omega (arith, inv.2)) ∙ inv.7)
             k h m
-        | else-count-lt-MOST-LINES w ↦
+        | else-count-lt-MOST_LINES w ↦
             λ k h m. ap (λ xs. get_or xs k 0) w.starts-is ∙ inv.5 k (omega (arith, w.if-count-lt-MOST_LINES.false)) m
       ],
       omega (arith, ap length here, length-drop n all),

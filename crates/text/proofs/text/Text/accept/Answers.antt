@@ -1,4 +1,7 @@
-use Rattle.text.proofs.Made.{delivered_facts, text_facts}
+use Rattle.std.proofs.Common.{ap}
+use Rattle.draft.specs.Index.{rank}
+use Rattle.text.proofs.Lawful.{lawful}
+use Rattle.text.proofs.Made.{whole, short, all_yes, calls_few}
 use Rattle.text.proofs.Refusals.{accepted_not, accepted_breach}
 use Rattle.text.proofs.text.Text.accept.Goals as goal
 
@@ -11,9 +14,26 @@ unreachable-requires-in_default-examine c =
     accepted_breach c.args.bytes.now c.requires s.sized s.whole s.ranged s.short c.in_default-examine.field-0 c.in_default-examine.ensures
 
 pub invariant_of-delivered : goal.invariant_of-delivered
-invariant_of-delivered c = delivered_facts c.args.bytes.now c.in-Ok.survey c.in-Ok.ensures
+invariant_of-delivered c =
+    let t = c.args.bytes.now in
+    let s = c.in-Ok.survey in
+    let f = c.in-Ok.ensures in
+    record { whole = whole t s f; short = short t s f; counts = f.points; globals = f.globals; locals = f.locals; placed = f.starts }
 
 pub invariant_of-result : goal.invariant_of-result
 invariant_of-result c =
+    let t = c.args.bytes.now in
+    let f = c.in-Ok.ensures in
     let d = c.in-Ok-examine.ensures in
-    text_facts c.args.bytes.now c.in-Ok.survey c.in-Ok-examine.index.procedures c.in-Ok-examine.index.callers c.in-Ok.ensures d.0 d.1 d.2
+    let all = all_yes t c.in-Ok.survey f d.1 in
+    let calls = c.index_calls-callers.ensures (calls_few t c.in-Ok.survey f d.1) in
+    record {
+      accepted = all;
+      lawful = lawful t all;
+      points = d.0.points;
+      count = d.0.count;
+      homes = d.0.homes;
+      exits = d.0.exits;
+      firsts = λ p. ap rank (calls.firsts p);
+      nexts = λ n. ap rank (calls.nexts n);
+    }

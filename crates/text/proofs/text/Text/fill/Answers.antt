@@ -1,10 +1,30 @@
-use Rattle.text.proofs.Made.{delivered_facts, text_facts}
+use Rattle.std.proofs.Common.{ap}
+use Rattle.draft.specs.Index.{rank}
+use Rattle.text.proofs.Lawful.{lawful}
+use Rattle.text.proofs.Made.{whole, short, all_yes, calls_few}
 use Rattle.text.proofs.text.Text.fill.Goals as goal
 
 pub invariant_of-delivered : goal.invariant_of-delivered
-invariant_of-delivered c = delivered_facts c.args.bytes.now c.in_ok-survey.survey c.in_ok-survey.ensures
+invariant_of-delivered c =
+    let t = c.args.bytes.now in
+    let s = c.in_ok-survey.survey in
+    let f = c.in_ok-survey.ensures in
+    record { whole = whole t s f; short = short t s f; counts = f.points; globals = f.globals; locals = f.locals; placed = f.starts }
 
 pub invariant_of-text : goal.invariant_of-text
 invariant_of-text c =
+    let t = c.args.bytes.now in
+    let f = c.in_ok-survey.ensures in
     let d = c.in-Ok.ensures in
-    text_facts c.args.bytes.now c.in_ok-survey.survey c.in-Ok.found.procedures c.in-Ok.found.callers c.in_ok-survey.ensures d.0 d.1 d.2
+    let all = all_yes t c.in_ok-survey.survey f d.1 in
+    let calls = c.index_calls-callers.ensures (calls_few t c.in_ok-survey.survey f d.1) in
+    record {
+      accepted = all;
+      lawful = lawful t all;
+      points = d.0.points;
+      count = d.0.count;
+      homes = d.0.homes;
+      exits = d.0.exits;
+      firsts = λ p. ap rank (calls.firsts p);
+      nexts = λ n. ap rank (calls.nexts n);
+    }
