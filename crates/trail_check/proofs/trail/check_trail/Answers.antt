@@ -13,6 +13,6 @@ returns g c =
     let xs = c.args.words.now in
     let room = length c.args.calls.now in
     record {
-      value = c.first-stray.ensures;
-      law = subst (λ (o : Option (ℕ × ℕ)). Verdict H xs room o) (sym c.first-stray.ensures) (check_law H fine xs room);
+      value = c.first_stray.ensures;
+      law = subst (λ (o : Option (ℕ × ℕ)). Verdict H xs room o) (sym c.first_stray.ensures) (check_law H fine xs room);
     }

@@ -9,15 +9,15 @@ use Rattle.trail_check.proofs.trail.first_stray.Goals as goal
 pub loop-place-init : goal.loop-place-init
 loop-place-init g c =
     let H = handed (g.P.Program.meaning c.args.program.now) (g.Q.Problem.relation c.args.problem.now) (g.Q.Problem.count c.args.problem.now) in
-    (omega arith, stray_first H c.args.words.now (some_words c.args.words.now (sym c.if-is-empty.ensures)))
+    (omega arith, stray_first H c.args.words.now (some_words c.args.words.now (sym c.if-is_empty.ensures)))
 
-pub returns-in-default : goal.returns-in-default
-returns-in-default g c =
+pub returns-in_default : goal.returns-in_default
+returns-in_default g c =
     let H = handed (g.P.Program.meaning c.args.program.now) (g.Q.Problem.relation c.args.problem.now) (g.Q.Problem.count c.args.problem.now) in
     let xs = c.args.words.now in
     let z = spot_at c.loop-place.at (open_in c.loop-place.calls c.loop-place.height) in
     sym (verdict H xs (length c.args.calls.now) c.if-calls-words.false (Some c.loop-place.place)
-    (stray_here H xs c.loop-place.place z (omega arith) c.loop-place.invariant.1 c.in-default.ensures.leads))
+    (stray_here H xs c.loop-place.place z (omega arith) c.loop-place.invariant.1 c.in_default.ensures.leads))
 
 pub loop-place-preserved : goal.loop-place-preserved
 loop-place-preserved g c =
