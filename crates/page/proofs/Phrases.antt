@@ -1,7 +1,7 @@
 -- A phrase, text by text.
 use Rattle.std.proofs.Common.{◌≡◌, ℕ, ◌+◌, ◌-◌, ◌≤◌, List, [], ◌∷◌, ◌++◌, length, take, drop, decimal, sym, ap, ◌∙◌, append_assoc, arith, length-append}
 use borrow.Rule.Slice.PartMut.{put_mid}
-use Rattle.std.proofs.lemmas.List.{append_nil, drop_all, drop_at, drop-drop, length-drop, take_at, take_rest}
+use Rattle.std.proofs.lemmas.List.{append-nil, drop_all, drop_at, drop-drop, length-drop, take_at, take_rest}
 use Rattle.paths.specs.Page.{put_at}
 use Rattle.page.specs.Writes.{fronted, item, phrase}
 
@@ -19,7 +19,7 @@ pub put_tail : (page part : List ℕ) (place : ℕ) → put_mid place (length pa
 put_tail page part place =
     let none : length (drop place page) ≤ length page - place = rw length-drop (omega arith) in
     ap (λ (zs : List ℕ). take place page ++ (part ++ zs)) (drop_all (length page - place) (drop place page) none)
-    ∙ ap (λ (zs : List ℕ). take place page ++ zs) (append_nil part)
+    ∙ ap (λ (zs : List ℕ). take place page ++ zs) (append-nil part)
 
 -- one text behind another at the front of a part
 pub front_more : (text more was now part : List ℕ) (place : ℕ)

@@ -1,6 +1,6 @@
 -- The lines of a trail, word by word.
 use Rattle.std.proofs.Common.{◌≡◌, ℕ, ◌+◌, ◌-◌, ◌<◌, ◌≤◌, List, [], ◌∷◌, ◌++◌, length, get_or, take, drop, Some, None, Option, sym, refl, ap, ◌∙◌, append_assoc, arith}
-use Rattle.std.proofs.lemmas.List.{append_nil, at_drop_more, at_drop_all, take_all}
+use Rattle.std.proofs.lemmas.List.{append-nil, at_drop_more, at_drop_all, take_all}
 use Rattle.listing.specs.declared.numbers.Cell.{Cell}
 use Rattle.moves.specs.declared.moves.Kind.{Kind}
 use Rattle.moves.specs.declared.moves.Kind.TheVariants.{Start, Step, Past, Call, Return}
@@ -14,7 +14,7 @@ module _ (stands : ℕ → Option Cell) (xs : List ℕ) (i k : ℕ) (out : List 
 
   -- a word that is no move's ends them
   pub no_move : i < length xs → decode (get_or xs i 0) ≡ None → out ≡ lines_of stands 0 xs
-  no_move l e = sym (append_nil out) ∙ (sym (ap (λ o. out ++ lines_from o stands k (λ j. lines_of stands j (drop (i + 1) xs))) e) ∙ next l)
+  no_move l e = sym (append-nil out) ∙ (sym (ap (λ o. out ++ lines_from o stands k (λ j. lines_of stands j (drop (i + 1) xs))) e) ∙ next l)
 
   pub one_more : i < length xs → (m : Move) → decode (get_or xs i 0) ≡ Some m → (out ++ move_line stands k m) ++ lines_of stands (opened k m.kind) (drop (i + 1) xs) ≡ lines_of stands 0 xs
   one_more l m e =
@@ -22,7 +22,7 @@ module _ (stands : ℕ → Option Cell) (xs : List ℕ) (i k : ℕ) (out : List 
       ∙ (sym (ap (λ o. out ++ lines_from o stands k (λ j. lines_of stands j (drop (i + 1) xs))) e) ∙ next l)
 
   pub no_more : length xs ≤ i → out ≡ lines_of stands 0 xs
-  no_more h = sym (append_nil out) ∙ (sym (ap (λ ls. out ++ ls) (at_drop_all (lines_of stands k) xs i h)) ∙ inv)
+  no_more h = sym (append-nil out) ∙ (sym (ap (λ ls. out ++ ls) (at_drop_all (lines_of stands k) xs i h)) ∙ inv)
 
 -- one move opens at most one call
 pub opened_le : (k : ℕ) (c : Kind) → opened k c ≤ k + 1

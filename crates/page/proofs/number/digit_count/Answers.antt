@@ -2,8 +2,8 @@ use Rattle.std.proofs.Common.{arith}
 use Rattle.page.proofs.Decimal.{length_step, length_digit, some_digits, few_digits}
 use Rattle.page.proofs.number.digit_count.Goals as goal
 
-pub overflow-add-count : goal.overflow-add-count
-overflow-add-count c = omega (arith, few_digits c.args.number (omega arith), some_digits c.loop-rest.rest (omega arith))
+pub overflow_add-count : goal.overflow_add-count
+overflow_add-count c = omega (arith, few_digits c.args.number (omega arith), some_digits c.loop-rest.rest (omega arith))
 
 pub loop-rest-preserved : goal.loop-rest-preserved
 loop-rest-preserved c = (omega arith, omega (arith, length_step c.loop-rest.rest (omega arith) (omega arith)))

@@ -3,21 +3,21 @@ use Rattle.page.specs.Writes.{fronted}
 use Rattle.page.proofs.Decimal.{length_step, length_digit, some_digits, one_more, no_more}
 use Rattle.page.proofs.number.write_number.Goals as goal
 
-pub overflow-sub-place : goal.overflow-sub-place
-overflow-sub-place c = omega (arith, some_digits c.args.number (omega arith))
+pub overflow_sub-place : goal.overflow_sub-place
+overflow_sub-place c = omega (arith, some_digits c.args.number (omega arith))
 
 pub loop-rest-init : goal.loop-rest-init
 loop-rest-init c =
     let some = some_digits c.args.number (omega arith) in
-    let all : c.digit-count-count.result - 1 + 1 ≡ length (decimal c.args.number) = omega arith in (
+    let all : c.digit_count-count.result - 1 + 1 ≡ length (decimal c.args.number) = omega arith in (
       omega arith,
       omega arith,
       omega arith,
       ap (λ (k : ℕ). decimal c.args.number ++ drop k c.args.part.now) all,
     )
 
-pub overflow-sub-place-in-loop-rest : goal.overflow-sub-place-in-loop-rest
-overflow-sub-place-in-loop-rest c =
+pub overflow_sub-place-in-loop-rest : goal.overflow_sub-place-in-loop-rest
+overflow_sub-place-in-loop-rest c =
     omega (arith, length_step c.loop-rest.rest (omega arith) (omega arith), some_digits (c.loop-rest.rest / 10) (omega arith))
 
 pub loop-rest-preserved : goal.loop-rest-preserved
@@ -27,16 +27,16 @@ loop-rest-preserved c =
       omega arith,
       omega arith,
       omega arith,
-      one_more c.loop-rest.rest c.loop-rest.place c.last-digit.result c.loop-rest.part (fronted (decimal c.args.number) c.args.part.now)
-          (omega arith) c.last-digit.ensures c.loop-rest.invariant.3 (omega arith) (omega arith) (omega arith),
+      one_more c.loop-rest.rest c.loop-rest.place c.last_digit.result c.loop-rest.part (fronted (decimal c.args.number) c.args.part.now)
+          (omega arith) c.last_digit.ensures c.loop-rest.invariant.3 (omega arith) (omega arith) (omega arith),
     )
 
 pub returns : goal.returns
 returns c =
     let one = length_digit c.loop-rest.rest (omega arith) in
     record {
-      count = c.digit-count-count.ensures.exact;
+      count = c.digit_count-count.ensures.exact;
       front =
-          no_more c.loop-rest.rest c.loop-rest.place c.last-digit-2.result c.loop-rest.part (fronted (decimal c.args.number) c.args.part.now)
-          (omega arith) c.last-digit-2.ensures c.loop-rest.invariant.3 (omega arith) (omega arith);
+          no_more c.loop-rest.rest c.loop-rest.place c.last_digit-2.result c.loop-rest.part (fronted (decimal c.args.number) c.args.part.now)
+          (omega arith) c.last_digit-2.ensures c.loop-rest.invariant.3 (omega arith) (omega arith);
     }

@@ -6,6 +6,6 @@ pub returns : goal.returns
 returns c = record {
   count = omega arith;
   front =
-      front_more c.args.text.now (decimal c.args.number) c.args.part.now c.write-text-count.new.part c.write-number.new.part c.write-text-count.result
-      c.write-text-count.ensures.count c.write-text-count.ensures.front c.write-number.ensures.front;
+      front_more c.args.text.now (decimal c.args.number) c.args.part.now c.write_text-count.new.part c.write_number.new.part c.write_text-count.result
+      c.write_text-count.ensures.count c.write_text-count.ensures.front c.write_number.ensures.front;
 }

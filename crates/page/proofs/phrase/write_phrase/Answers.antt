@@ -13,8 +13,8 @@ returns c =
     let one : length (item before first) ≡ length before + length (decimal first) = length-append before (decimal first) in
     let other : length (item between second) ≡ length between + length (decimal second) = length-append between (decimal second) in
     let both : length (item before first ++ item between second) ≡ length (item before first) + length (item between second) = length-append (item before first) (item between second) in
-    front_more (item before first ++ item between second) (10 ∷ []) was _ c.end-line.new.part (c.write-item-place.result + c.write-item-place-2.result) (omega arith)
-    (front_more (item before first) (item between second) was c.write-item-place.new.part c.write-item-place-2.new.part c.write-item-place.result
-    (omega arith) c.write-item-place.ensures.front c.write-item-place-2.ensures.front)
-    c.end-line.ensures
+    front_more (item before first ++ item between second) (10 ∷ []) was _ c.end_line.new.part (c.write_item-place.result + c.write_item-place-2.result) (omega arith)
+    (front_more (item before first) (item between second) was c.write_item-place.new.part c.write_item-place-2.new.part c.write_item-place.result
+    (omega arith) c.write_item-place.ensures.front c.write_item-place-2.ensures.front)
+    c.end_line.ensures
     ∙ ap (λ (text : List ℕ). fronted text was) (two_items before first between second)

@@ -1,5 +1,5 @@
 use Rattle.std.proofs.Common.{◌≡◌, ℕ, ◌+◌, ◌-◌, ◌*◌, ◌<◌, ◌⊎◌, List, [], ◌∷◌, ◌++◌, length, IfOk, string_bytes, sym, refl, ap, ◌∙◌, subst, inl, inr, arith}
-use Rattle.std.proofs.lemmas.List.{append_nil, nil_from_length}
+use Rattle.std.proofs.lemmas.List.{append-nil, nil_from_length}
 use Rattle.listing.specs.Meaning.{size}
 use Rattle.records.specs.declared.tallies.Tallies.{Tallies}
 use Rattle.records.specs.Texts.{tallies_text}
@@ -34,7 +34,7 @@ returns-then-tallies-eq0 g c =
     let len : length t.waiting ≡ 0 = sym (ap (λ (x : Tallies). x.waiting) c.tallies.ensures.value) ∙ c.if-tallies-eq0.true in
     let none : t.waiting ≡ [] = nil_from_length t.waiting len in
     record {
-      told = sym (append_nil (string_bytes c.loop.out)) ∙ sym (ap (λ (b : List ℕ). string_bytes c.loop.out ++ b) (lines_none h k c.args.from n t none)) ∙ c.loop.invariant.0;
+      told = sym (append-nil (string_bytes c.loop.out)) ∙ sym (ap (λ (b : List ℕ). string_bytes c.loop.out ++ b) (lines_none h k c.args.from n t none)) ∙ c.loop.invariant.0;
       leaves = sym (last_none h k c.args.from n t none) ∙ c.loop.invariant.1;
       done = none;
       row = c.loop.invariant.4;
@@ -90,7 +90,7 @@ returns g c =
       | inr e ↦ e
     ] in
     record {
-      told = sym (append_nil (string_bytes c.loop.out)) ∙ sym (ap (λ (b : List ℕ). string_bytes c.loop.out ++ b) (lines_none h k c.args.from n t none)) ∙ inv.0;
+      told = sym (append-nil (string_bytes c.loop.out)) ∙ sym (ap (λ (b : List ℕ). string_bytes c.loop.out ++ b) (lines_none h k c.args.from n t none)) ∙ inv.0;
       leaves = sym (last_none h k c.args.from n t none) ∙ inv.1;
       done = none;
       row = inv.4;
