@@ -83,14 +83,14 @@ fn is_entered(globals: u8, local: Origin, statement: Statement<Cell>, d: u8, e: 
 }
 
 // Back from the callee: the call's own cell's fact from the returned cell's, another global's from itself.
-fn is_returned(globals: u8, statement: Statement<Cell>, res: Cell, d: u8, e: u8) -> bool
-    ensures { result ≡ returned globals statement res d e }
+fn is_returned(globals: u8, statement: Statement<Cell>, ret_cell: Cell, d: u8, e: u8) -> bool
+    ensures { result ≡ returned globals statement ret_cell d e }
 {
     let Statement::Call { to, .. } = statement else {
         return false;
     };
     if speaks_of(e, to) {
-        speaks_of(d, res)
+        speaks_of(d, ret_cell)
     } else {
         e <= globals && d == e
     }

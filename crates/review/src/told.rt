@@ -4,7 +4,7 @@ ghost use Rattle.review.specs.Told.{chosen, told_of};
 
 use crate::trail::review;
 use flow::cells::CellCounts;
-use flow::choice::Choice;
+pub use flow::choice::Choice;
 use flow::raw::Raw;
 use flow::unset::Unset;
 use listing::program::Program;

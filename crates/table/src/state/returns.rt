@@ -20,7 +20,7 @@ impl Core {
         &mut self,
         problem: &Q,
         x: Site,
-        res: Cell,
+        ret_cell: Cell,
         call: Caller,
         b: Fact,
         f: Fact,
@@ -31,7 +31,7 @@ impl Core {
         requires origin { b.0 < self.old.facts }
         requires fact { f.0 < self.old.facts }
         ensures kept { Kept self.old self.new }
-        ensures after { inner self.new ≡ answers_cell (Q.relation problem.now) (Q.count problem.now) x res call b.0 f.0 (inner self.old) }
+        ensures after { inner self.new ≡ answers_cell (Q.relation problem.now) (Q.count problem.now) x ret_cell call b.0 f.0 (inner self.old) }
     {
         let cell = self.number(Spot {
             point: call.at,
@@ -46,7 +46,7 @@ impl Core {
             let edge = Edge::Return {
                 at: call.at,
                 statement: call.statement,
-                result: res,
+                result: ret_cell,
             };
             let by = Lead {
                 kind: Kind::Return,
@@ -59,29 +59,36 @@ impl Core {
     }
 
     // Returns to the cells of a call under one origin.
-    fn answer_row<Q: Problem>(&mut self, problem: &Q, x: Site, res: Cell, call: Caller, b: Fact)
+    fn answer_row<Q: Problem>(
+        &mut self,
+        problem: &Q,
+        x: Site,
+        ret_cell: Cell,
+        call: Caller,
+        b: Fact,
+    )
         requires facts { self.old.facts ≡ Q.count problem.now }
         requires stands { Stands self.old x }
         requires next { call.at.0 + 1 < self.old.points }
         requires origin { b.0 < self.old.facts }
         ensures kept { Kept self.old self.new }
-        ensures after { inner self.new ≡ answers_row (Q.relation problem.now) (Q.count problem.now) x res call b.0 (inner self.old) }
+        ensures after { inner self.new ≡ answers_row (Q.relation problem.now) (Q.count problem.now) x ret_cell call b.0 (inner self.old) }
     {
         for f in 0..self.facts {
-            self.answer_cell(problem, x, res, call, b, Fact(f));
+            self.answer_cell(problem, x, ret_cell, call, b, Fact(f));
         }
     }
 
     // Returns to the cells of a call.
-    fn answer_call<Q: Problem>(&mut self, problem: &Q, x: Site, res: Cell, call: Caller)
+    fn answer_call<Q: Problem>(&mut self, problem: &Q, x: Site, ret_cell: Cell, call: Caller)
         requires facts { self.old.facts ≡ Q.count problem.now }
         requires stands { Stands self.old x }
         requires next { call.at.0 + 1 < self.old.points }
         ensures kept { Kept self.old self.new }
-        ensures after { inner self.new ≡ answers (Q.relation problem.now) (Q.count problem.now) x res call (inner self.old) }
+        ensures after { inner self.new ≡ answers (Q.relation problem.now) (Q.count problem.now) x ret_cell call (inner self.old) }
     {
         for b in 0..self.facts {
-            self.answer_row(problem, x, res, call, Fact(b));
+            self.answer_row(problem, x, ret_cell, call, Fact(b));
         }
     }
 
@@ -91,13 +98,13 @@ impl Core {
         program: &P,
         problem: &Q,
         x: Site,
-        res: Cell,
+        ret_cell: Cell,
     )
         requires points { self.old.points ≡ size (P.meaning program.now) }
         requires facts { self.old.facts ≡ Q.count problem.now }
         requires stands { Stands self.old x }
         ensures kept { Kept self.old self.new }
-        ensures after { inner self.new ≡ caller_each (graph_of (P.meaning program.now)) (Q.relation problem.now) (size (P.meaning program.now)) (Q.count problem.now) res (cell_of x.spot) (inner self.old) }
+        ensures after { inner self.new ≡ caller_each (graph_of (P.meaning program.now)) (Q.relation problem.now) (size (P.meaning program.now)) (Q.count problem.now) ret_cell (cell_of x.spot) (inner self.old) }
     {
         let Some(home) = program.procedure_of(x.spot.point) else {
             return;
@@ -107,7 +114,7 @@ impl Core {
             let Some(statement) = program.statement(at) else {
                 return;
             };
-            self.answer_call(problem, x, res, Caller { at, statement });
+            self.answer_call(problem, x, ret_cell, Caller { at, statement });
             caller = program.next_caller(at);
         }
     }
