@@ -8,8 +8,8 @@ use Rattle.table.proofs.state.Core.all_come_back.Goals as goal
 pub loop-z-init : goal.loop-z-init
 loop-z-init g c = (kept_same _, refl)
 
-pub come-back-requires : goal.come-back-requires
-come-back-requires g c =
+pub come_back-requires : goal.come_back-requires
+come_back-requires g c =
     let k = c.loop-z.invariant.0 in
     record {
       facts = k.facts ∙ c.requires.facts;
@@ -25,7 +25,7 @@ loop-z-preserved g c =
     let x = c.args in
     let q = x.problem.now in
     let f = comes_back (g.Q.Problem.relation q) (g.Q.Problem.count q) x.x x.callee x.e.0 in
-    (kept_then _ _ _ c.loop-z.invariant.0 c.come-back.ensures.kept, turn f c.loop-z.z (inner x.self.now) _ _ c.loop-z.invariant.1 c.come-back.ensures.after)
+    (kept_then _ _ _ c.loop-z.invariant.0 c.come_back.ensures.kept, turn f c.loop-z.z (inner x.self.now) _ _ c.loop-z.invariant.1 c.come_back.ensures.after)
 
 pub returns : goal.returns
 returns g c =

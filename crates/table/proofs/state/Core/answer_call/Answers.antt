@@ -8,8 +8,8 @@ use Rattle.table.proofs.state.Core.answer_call.Goals as goal
 pub loop-b-init : goal.loop-b-init
 loop-b-init g c = (kept_same _, refl)
 
-pub answer-row-requires : goal.answer-row-requires
-answer-row-requires g c =
+pub answer_row-requires : goal.answer_row-requires
+answer_row-requires g c =
     let k = c.loop-b.invariant.0 in
     record {
       facts = k.facts ∙ c.requires.facts;
@@ -23,7 +23,7 @@ loop-b-preserved g c =
     let x = c.args in
     let q = x.problem.now in
     let f = answers_row (g.Q.Problem.relation q) (g.Q.Problem.count q) x.x x.result x.call in
-    (kept_then _ _ _ c.loop-b.invariant.0 c.answer-row.ensures.kept, turn f c.loop-b.b (inner x.self.now) _ _ c.loop-b.invariant.1 c.answer-row.ensures.after)
+    (kept_then _ _ _ c.loop-b.invariant.0 c.answer_row.ensures.kept, turn f c.loop-b.b (inner x.self.now) _ _ c.loop-b.invariant.1 c.answer_row.ensures.after)
 
 pub returns : goal.returns
 returns g c =

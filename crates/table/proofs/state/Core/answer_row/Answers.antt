@@ -8,8 +8,8 @@ use Rattle.table.proofs.state.Core.answer_row.Goals as goal
 pub loop-f-init : goal.loop-f-init
 loop-f-init g c = (kept_same _, refl)
 
-pub answer-cell-requires : goal.answer-cell-requires
-answer-cell-requires g c =
+pub answer_cell-requires : goal.answer_cell-requires
+answer_cell-requires g c =
     let k = c.loop-f.invariant.0 in
     record {
       facts = k.facts ∙ c.requires.facts;
@@ -24,7 +24,7 @@ loop-f-preserved g c =
     let x = c.args in
     let q = x.problem.now in
     let f = answers_cell (g.Q.Problem.relation q) (g.Q.Problem.count q) x.x x.result x.call x.b.0 in
-    (kept_then _ _ _ c.loop-f.invariant.0 c.answer-cell.ensures.kept, turn f c.loop-f.f (inner x.self.now) _ _ c.loop-f.invariant.1 c.answer-cell.ensures.after)
+    (kept_then _ _ _ c.loop-f.invariant.0 c.answer_cell.ensures.kept, turn f c.loop-f.f (inner x.self.now) _ _ c.loop-f.invariant.1 c.answer_cell.ensures.after)
 
 pub returns : goal.returns
 returns g c =

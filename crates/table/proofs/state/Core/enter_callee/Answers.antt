@@ -8,8 +8,8 @@ use Rattle.table.proofs.state.Core.enter_callee.Goals as goal
 pub loop-e-init : goal.loop-e-init
 loop-e-init g c = (kept_same _, refl)
 
-pub enter-with-requires : goal.enter-with-requires
-enter-with-requires g c =
+pub enter_with-requires : goal.enter_with-requires
+enter_with-requires g c =
     let k = c.loop-e.invariant.0 in
     record {
       facts = k.facts ∙ c.requires.facts;
@@ -24,7 +24,7 @@ loop-e-preserved g c =
     let x = c.args in
     let q = x.problem.now in
     let f = enters (g.Q.Problem.relation q) (g.Q.Problem.count q) x.x x.callee in
-    (kept_then _ _ _ c.loop-e.invariant.0 c.enter-with.ensures.kept, turn f c.loop-e.e (inner x.self.now) _ _ c.loop-e.invariant.1 c.enter-with.ensures.after)
+    (kept_then _ _ _ c.loop-e.invariant.0 c.enter_with.ensures.kept, turn f c.loop-e.e (inner x.self.now) _ _ c.loop-e.invariant.1 c.enter_with.ensures.after)
 
 pub returns : goal.returns
 returns g c =

@@ -3,12 +3,12 @@ use Rattle.table.proofs.Finds.{finds_old}
 use Rattle.table.proofs.Kept.{kept_same}
 use Rattle.table.proofs.state.Core.find.Goals as goal
 
-pub returns-then-is-found : goal.returns-then-is-found
-returns-then-is-found c =
+pub returns-then-is_found : goal.returns-then-is_found
+returns-then-is_found c =
     let t = c.args.self.now in
     let by = c.args.by in
     record {
       kept = kept_same t;
       after = finds_old (vec_items t.records) t.points t.facts t.found t.head t.tail c.args.cell by.kind by.first by.second
-          (c.is-found.ensures.found c.if-is-found.true).ranked;
+          (c.is_found.ensures.found c.if-is_found.true).ranked;
     }

@@ -22,8 +22,8 @@ enter-requires c =
     let r = room (sound t) c.args.cell c.requires.within z in
     (omega (arith, c.requires.within, t.held, t.records.ok.0), omega (arith, t.pushed, t.held, t.records.ok.0))
 
-pub invariant-of-self : goal.invariant-of-self
-invariant-of-self c =
+pub invariant_of-self : goal.invariant_of-self
+invariant_of-self c =
     let t = c.args.self.now in
     let by = c.args.by in
     let z = not_found (vec_items t.records) t.points t.facts t.found t.head t.tail c.args.cell (sym c.requires.unfound) in

@@ -27,21 +27,21 @@ standing t spot c s e inside found = record {
   found = found;
 }
 
-pub returns-in-default : goal.returns-in-default
-returns-in-default g c =
+pub returns-in_default : goal.returns-in_default
+returns-in_default g c =
     let m = g.P.Program.meaning c.args.program.now in
     let p = c.spot-spot.result.point in
-    absurd (let z = nth_none m.statements p.0 (sym c.in-default.ensures) in omega (arith, c.spot-spot.ensures.inside.point, c.requires.points))
+    absurd (let z = nth_none m.statements p.0 (sym c.in_default.ensures) in omega (arith, c.spot-spot.ensures.inside.point, c.requires.points))
 
-pub returns-in-default-callee-of : goal.returns-in-default-callee-of
-returns-in-default-callee-of g c =
+pub returns-in_default-callee_of : goal.returns-in_default-callee_of
+returns-in_default-callee_of g c =
     let m = g.P.Program.meaning c.args.program.now in
     let k = c.in-Call in
     absurd (let b = callee_below m (g.P.Program.lawful c.args.program.now) c.spot-spot.result.point k.to k.callee k.argument
-    (ap Some (sym k.is) ∙ c.in-Some.ensures) in omega (arith, c.in-default-callee-of.ensures))
+    (ap Some (sym k.is) ∙ c.in-Some.ensures) in omega (arith, c.in_default-callee_of.ensures))
 
-pub settle-call-requires : goal.settle-call-requires
-settle-call-requires g c =
+pub settle_call-requires : goal.settle_call-requires
+settle_call-requires g c =
     let m = g.P.Program.meaning c.args.program.now in
     let lawful = g.P.Program.lawful c.args.program.now in
     let k = c.in-Call in
@@ -50,16 +50,16 @@ settle-call-requires g c =
       facts = c.requires.facts;
       stands = standing _ _ _ _ spot.ensures.value spot.ensures.inside c.requires.found;
       next = behind m lawful _ c.requires.points spot.result.point k.to k.callee k.argument (ap Some (sym k.is) ∙ c.in-Some.ensures);
-      callable = callable m lawful _ c.requires.points k.callee _ c.in-Some-callee-of.ensures;
+      callable = callable m lawful _ c.requires.points k.callee _ c.in-Some-callee_of.ensures;
     }
 
-pub settle-ret-requires : goal.settle-ret-requires
-settle-ret-requires g c =
+pub settle_ret-requires : goal.settle_ret-requires
+settle_ret-requires g c =
     let spot = c.spot-spot in
     record { points = c.requires.points; facts = c.requires.facts; stands = standing _ _ _ _ spot.ensures.value spot.ensures.inside c.requires.found }
 
-pub settle-plain-requires : goal.settle-plain-requires
-settle-plain-requires g c =
+pub settle_plain-requires : goal.settle_plain-requires
+settle_plain-requires g c =
     let m = g.P.Program.meaning c.args.program.now in
     let spot = c.spot-spot in
     record {
@@ -68,8 +68,8 @@ settle-plain-requires g c =
       onward = goes_on m (g.P.Program.lawful c.args.program.now) _ c.requires.points spot.result.point c.in-Some.statement c.in-Some.ensures;
     }
 
-pub returns-in-Some-callee-of : goal.returns-in-Some-callee-of
-returns-in-Some-callee-of g c =
+pub returns-in-Some-callee_of : goal.returns-in-Some-callee_of
+returns-in-Some-callee_of g c =
     let m = g.P.Program.meaning c.args.program.now in
     let Q = g.Q.Problem.relation c.args.problem.now in
     let F = g.Q.Problem.count c.args.problem.now in
@@ -80,10 +80,10 @@ returns-in-Some-callee-of g c =
     let number : c.args.cell ≡ number_of F (cell_of spot.result) = sym (ap (number_of F) value ∙ number_back F c.args.cell) in
     let x : Site = record { spot = spot.result; cell = c.args.cell; statement = c.in-Some.statement } in
     record {
-      kept = c.settle-call.ensures.kept;
+      kept = c.settle_call.ensures.kept;
       after =
-          c.settle-call.ensures.after
-          ∙ call m Q F x number k.to k.callee k.argument k.is c.in-Some-callee-of.callee c.in-Some-callee-of.ensures t
+          c.settle_call.ensures.after
+          ∙ call m Q F x number k.to k.callee k.argument k.is c.in-Some-callee_of.callee c.in-Some-callee_of.ensures t
           ∙ at_spot m Q F spot.result c.args.cell (Some (Call k.to k.callee k.argument)) t value (ap Some (sym k.is) ∙ c.in-Some.ensures);
     }
 
@@ -96,12 +96,12 @@ returns-in-Ret g c =
     let t = inner c.args.self.now in
     let value : cell_of spot.result ≡ cell_at F c.args.cell = spot.ensures.value ∙ ap (λ (f : ℕ). cell_at f c.args.cell) c.requires.facts in
     record {
-      kept = c.settle-ret.ensures.kept;
-      after = c.settle-ret.ensures.after ∙ at_spot m Q F spot.result c.args.cell (Some (Ret c.in-Ret.from)) t value (ap Some (sym c.in-Ret.is) ∙ c.in-Some.ensures);
+      kept = c.settle_ret.ensures.kept;
+      after = c.settle_ret.ensures.after ∙ at_spot m Q F spot.result c.args.cell (Some (Ret c.in-Ret.from)) t value (ap Some (sym c.in-Ret.is) ∙ c.in-Some.ensures);
     }
 
-pub returns-in-default-statement : goal.returns-in-default-statement
-returns-in-default-statement g c =
+pub returns-in_default-statement : goal.returns-in_default-statement
+returns-in_default-statement g c =
     let m = g.P.Program.meaning c.args.program.now in
     let Q = g.Q.Problem.relation c.args.problem.now in
     let F = g.Q.Problem.count c.args.problem.now in
@@ -111,6 +111,6 @@ returns-in-default-statement g c =
     let number : c.args.cell ≡ number_of F (cell_of spot.result) = sym (ap (number_of F) value ∙ number_back F c.args.cell) in
     let x : Site = record { spot = spot.result; cell = c.args.cell; statement = c.in-Some.statement } in
     record {
-      kept = c.settle-plain.ensures.kept;
-      after = c.settle-plain.ensures.after ∙ plain m Q F x number c.in-default-statement.not-Call c.in-default-statement.not-Ret t ∙ at_spot m Q F spot.result c.args.cell (Some c.in-Some.statement) t value c.in-Some.ensures;
+      kept = c.settle_plain.ensures.kept;
+      after = c.settle_plain.ensures.after ∙ plain m Q F x number c.in_default-statement.not-Call c.in_default-statement.not-Ret t ∙ at_spot m Q F spot.result c.args.cell (Some c.in-Some.statement) t value c.in-Some.ensures;
     }

@@ -11,21 +11,21 @@ use Rattle.table.proofs.Callers.{Progress, left, at_first, at_next, fewer, no_st
 use Rattle.table.proofs.Kept.{kept_same, kept_then, stands_still}
 use Rattle.table.proofs.state.Core.settle_ret.Goals as goal
 
-pub returns-in-default : goal.returns-in-default
-returns-in-default g c =
+pub returns-in_default : goal.returns-in_default
+returns-in_default g c =
     let m = g.P.Program.meaning c.args.program.now in
-    absurd (below_none c.args.x.spot.point.0 (size m) (proc (procedure (flow m) c.args.x.spot.point.0)) (omega (arith, c.requires.points, c.requires.stands.inside.point)) c.in-default.ensures)
+    absurd (below_none c.args.x.spot.point.0 (size m) (proc (procedure (flow m) c.args.x.spot.point.0)) (omega (arith, c.requires.points, c.requires.stands.inside.point)) c.in_default.ensures)
 
 pub loop-caller-init : goal.loop-caller-init
 loop-caller-init g c =
     let x = c.args in
     let m = g.P.Program.meaning x.program.now in
     let home = (below_some x.x.spot.point.0 (size m) (proc (procedure (flow m) x.x.spot.point.0)) c.in-Some.home c.in-Some.ensures).1 in
-    let from = c.first-caller-caller.ensures ∙ ap (λ (p : Proc). call_from (flow m) p.0 0) (sym home) in
-    (kept_same _, at_first m (g.Q.Problem.relation x.problem.now) (g.Q.Problem.count x.problem.now) x.result x.x (inner x.self.now) c.first-caller-caller.result from)
+    let from = c.first_caller-caller.ensures ∙ ap (λ (p : Proc). call_from (flow m) p.0 0) (sym home) in
+    (kept_same _, at_first m (g.Q.Problem.relation x.problem.now) (g.Q.Problem.count x.problem.now) x.result x.x (inner x.self.now) c.first_caller-caller.result from)
 
-pub returns-in-default-statement : goal.returns-in-default-statement
-returns-in-default-statement g c =
+pub returns-in_default-statement : goal.returns-in_default-statement
+returns-in_default-statement g c =
     let x = c.args in
     let m = g.P.Program.meaning x.program.now in
     let Q = g.Q.Problem.relation x.problem.now in
@@ -33,10 +33,10 @@ returns-in-default-statement g c =
     let start = inner x.self.now in
     let at = c.in-Some-caller.at in
     let here = subst (λ (o : Option Point). Progress m Q F x.result x.x start o (inner c.loop-caller.self)) c.in-Some-caller.is c.loop-caller.invariant.1 in
-    absurd (no_statement m Q F x.result x.x start at c.in-default-statement.ensures here.1)
+    absurd (no_statement m Q F x.result x.x start at c.in_default-statement.ensures here.1)
 
-pub answer-call-requires : goal.answer-call-requires
-answer-call-requires g c =
+pub answer_call-requires : goal.answer_call-requires
+answer_call-requires g c =
     let x = c.args in
     let m = g.P.Program.meaning x.program.now in
     let Q = g.Q.Problem.relation x.problem.now in
@@ -58,9 +58,9 @@ loop-caller-preserved g c =
     let at = c.in-Some-caller.at in
     let here = subst (λ (o : Option Point). Progress m Q F x.result x.x start o (inner c.loop-caller.self)) c.in-Some-caller.is c.loop-caller.invariant.1 in
     let number = c.requires.stands.number ∙ ap (λ (f : ℕ). number_of f (cell_of x.x.spot)) c.requires.facts in (
-      kept_then _ _ _ c.loop-caller.invariant.0 c.answer-call.ensures.kept,
+      kept_then _ _ _ c.loop-caller.invariant.0 c.answer_call.ensures.kept,
       at_next m Q F x.result x.x start at c.in-Some-statement.statement c.in-Some-statement.ensures here.1
-          (inner c.loop-caller.self) (inner c.answer-call.new.self) here.0 number c.answer-call.ensures.after c.next-caller-caller.result c.next-caller-caller.ensures,
+          (inner c.loop-caller.self) (inner c.answer_call.new.self) here.0 number c.answer_call.ensures.after c.next_caller-caller.result c.next_caller-caller.ensures,
     )
 
 pub loop-caller-smaller : goal.loop-caller-smaller
@@ -72,13 +72,13 @@ loop-caller-smaller g c =
     let start = inner x.self.now in
     let at = c.in-Some-caller.at in
     let here = subst (λ (o : Option Point). Progress m Q F x.result x.x start o (inner c.loop-caller.self)) c.in-Some-caller.is c.loop-caller.invariant.1 in
-    let f = fewer m Q F x.result x.x start at c.in-Some-statement.statement c.in-Some-statement.ensures here.1 c.next-caller-caller.result c.next-caller-caller.ensures in
-    subst (λ (o : Option Point). left (size m) c.next-caller-caller.result < left (size m) o) (sym c.in-Some-caller.is) f
+    let f = fewer m Q F x.result x.x start at c.in-Some-statement.statement c.in-Some-statement.ensures here.1 c.next_caller-caller.result c.next_caller-caller.ensures in
+    subst (λ (o : Option Point). left (size m) c.next_caller-caller.result < left (size m) o) (sym c.in-Some-caller.is) f
 
 pub returns : goal.returns
 returns g c =
     let x = c.args in
     record {
       kept = c.loop-caller.invariant.0;
-      after = subst (λ (o : Option Point). Progress (g.P.Program.meaning x.program.now) (g.Q.Problem.relation x.problem.now) (g.Q.Problem.count x.problem.now) x.result x.x (inner x.self.now) o (inner c.loop-caller.self)) c.in-default-caller.is c.loop-caller.invariant.1;
+      after = subst (λ (o : Option Point). Progress (g.P.Program.meaning x.program.now) (g.Q.Problem.relation x.problem.now) (g.Q.Problem.count x.problem.now) x.result x.x (inner x.self.now) o (inner c.loop-caller.self)) c.in_default-caller.is c.loop-caller.invariant.1;
     }

@@ -51,14 +51,14 @@ loop-done-preserved g c =
       kept.spare ∙ spare_moved _ _ v ∙ inv.5,
     )
 
-pub returns-in-default : goal.returns-in-default
-returns-in-default g c =
+pub returns-in_default : goal.returns-in_default
+returns-in_default g c =
     let m = g.P.Program.meaning c.args.program.now in
     let Q = g.Q.Problem.relation c.args.problem.now in
     let F = g.Q.Problem.count c.args.problem.now in
     let inv = c.loop-done.invariant in
     let t = inner c.loop-done.self in
-    let value = c.in-default.ensures.value in
+    let value = c.in_default.ensures.value in
     let same = none_taken (graph_of m) Q (size m) F c.args.end t (inner c.take.new.self) value c.take.ensures.after in
     let after = same ∙ sym (idle (graph_of m) Q (size m) F c.args.end (c.args.k - c.loop-done.done) t value) ∙ inv.0 in
     let count : (inner c.take.new.self).settled ≡ (inner c.args.self.now).settled + c.loop-done.done = ap (λ x. x.settled) same ∙ inv.1 in

@@ -11,8 +11,8 @@ point_here : (t : Core) (c f : ℕ) → c < t.size → f ≡ t.facts → c / f /
 point_here t c f h e =
     subst (λ (x : ℕ). c / x / x < t.points) (sym e) (point_below t.points t.facts c (some_here t) (omega (arith, t.product)))
 
-pub overflow-cast-result : goal.overflow-cast-result
-overflow-cast-result c =
+pub overflow_cast-result : goal.overflow_cast-result
+overflow_cast-result c =
     let t = c.args.self.now in
     omega (arith, point_here t c.args.cell c.from-facts.result c.requires c.from-facts.ensures, t.few_points)
 

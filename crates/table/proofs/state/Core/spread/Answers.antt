@@ -9,8 +9,8 @@ use Rattle.table.proofs.state.Core.spread.Goals as goal
 pub loop-e-init : goal.loop-e-init
 loop-e-init g c = (kept_same _, refl)
 
-pub spread-fact-requires : goal.spread-fact-requires
-spread-fact-requires g c =
+pub spread_fact-requires : goal.spread_fact-requires
+spread_fact-requires g c =
     let k = c.loop-e.invariant.0 in
     record {
       facts = k.facts ∙ c.requires.facts;
@@ -25,7 +25,7 @@ loop-e-preserved g c =
     let x = c.args in
     let q = x.problem.now in
     let f = spread_fact (g.Q.Problem.relation q) (g.Q.Problem.count q) x.edge x.d.0 x.by x.point.0 x.origin.0 in
-    (kept_then _ _ _ c.loop-e.invariant.0 c.spread-fact.ensures.kept, turn f c.loop-e.e (inner x.self.now) _ _ c.loop-e.invariant.1 c.spread-fact.ensures.after)
+    (kept_then _ _ _ c.loop-e.invariant.0 c.spread_fact.ensures.kept, turn f c.loop-e.e (inner x.self.now) _ _ c.loop-e.invariant.1 c.spread_fact.ensures.after)
 
 pub returns : goal.returns
 returns g c =

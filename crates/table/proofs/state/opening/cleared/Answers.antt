@@ -8,21 +8,21 @@ use Rattle.table.proofs.Opens.{opened_sound, some_cells, has_size, new_state, ne
 use Rattle.table.proofs.Sounds.{Sound}
 use Rattle.table.proofs.state.opening.cleared.Goals as goal
 
-pub invariant-of-result : goal.invariant-of-result
-invariant-of-result g c =
+pub invariant_of-result : goal.invariant_of-result
+invariant_of-result g c =
     let m = g.P.Program.meaning c.args.program.now in
     let q = c.args.problem.now in
     let lawful = parts m (g.P.Program.lawful c.args.program.now) in
     let few = g.met.Q.Problem.few q in
     let n : ℕ = c.counts-points.result.points in
     let f : ℕ = c.facts-facts.result in
-    let k : ℕ = c.cells-of-size.result in
+    let k : ℕ = c.cells_of-size.result in
     let points : n ≡ size m = ap (λ x. x.points) c.counts-points.ensures in
     let rs = vec_items c.args.memory in
-    let held : k ≤ length rs = has_size (handed m (g.Q.Problem.relation q) (g.Q.Problem.count q)) n f k points c.facts-facts.ensures c.cells-of-size.ensures rs c.requires in
+    let held : k ≤ length rs = has_size (handed m (g.Q.Problem.relation q) (g.Q.Problem.count q)) n f k points c.facts-facts.ensures c.cells_of-size.ensures rs c.requires in
     let some = some_cells n f (omega (arith, lawful.some_points)) (omega (arith, few.some, c.facts-facts.ensures)) in
     let P : List Record → Type 0 = λ ys. Sound ys n f k 0 0 0 in
-    let s = subst P (sym c.clear.ensures) (opened_sound rs k held n f (omega (arith, lawful.few_points)) (omega (arith, few.most, c.facts-facts.ensures)) c.cells-of-size.ensures (omega (arith, c.cells-of-size.ensures))) in (
+    let s = subst P (sym c.clear.ensures) (opened_sound rs k held n f (omega (arith, lawful.few_points)) (omega (arith, few.most, c.facts-facts.ensures)) c.cells_of-size.ensures (omega (arith, c.cells_of-size.ensures))) in (
       s.few_points,
       (
         s.few_facts,
@@ -63,10 +63,10 @@ returns g c =
     let h : Handed = handed m Q F in
     let n = c.counts-points.result.points in
     let f = c.facts-facts.result in
-    let k = c.cells-of-size.result in
+    let k = c.cells_of-size.result in
     let en : n ≡ size m = ap (λ x. x.points) c.counts-points.ensures in
     let ef = c.facts-facts.ensures in
-    let ek = c.cells-of-size.ensures in
+    let ek = c.cells_of-size.ensures in
     let rs = vec_items c.args.memory in
     let held : k ≤ length rs = has_size h n f k en ef ek rs c.requires in
     let new = vec_items c.clear.new.records in
@@ -80,6 +80,6 @@ pub clear-requires : goal.clear-requires
 clear-requires g c =
     let m = g.P.Program.meaning c.args.program.now in
     let q = c.args.problem.now in
-    let held = has_size (handed m (g.Q.Problem.relation q) (g.Q.Problem.count q)) c.counts-points.result.points c.facts-facts.result c.cells-of-size.result
-    (ap (λ x. x.points) c.counts-points.ensures) c.facts-facts.ensures c.cells-of-size.ensures (vec_items c.args.memory) c.requires in
+    let held = has_size (handed m (g.Q.Problem.relation q) (g.Q.Problem.count q)) c.counts-points.result.points c.facts-facts.result c.cells_of-size.result
+    (ap (λ x. x.points) c.counts-points.ensures) c.facts-facts.ensures c.cells_of-size.ensures (vec_items c.args.memory) c.requires in
     omega (arith, c.args.memory.ok.0)
