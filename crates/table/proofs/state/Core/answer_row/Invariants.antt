@@ -7,4 +7,4 @@ use Rattle.table.proofs.state.Core.answer_row.Given as goal
 abbrev pub invariant-loop-f : goal.invariant-loop-f
 invariant-loop-f g l =
     Kept l.initial.self l.self
-    × (inner l.self ≡ each l.f (answers_cell (g.Q.Problem.relation l.problem) (g.Q.Problem.count l.problem) l.x l.res l.call l.b.0) (inner l.initial.self))
+    × (inner l.self ≡ each l.f (answers_cell (g.Q.Problem.relation l.problem) (g.Q.Problem.count l.problem) l.x l.ret_cell l.call l.b.0) (inner l.initial.self))

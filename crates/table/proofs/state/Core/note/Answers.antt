@@ -31,37 +31,27 @@ invariant_of-self c =
     let P : List Record → Type 0 = λ rs. Sound rs t.points t.facts t.size (t.found + 1) t.head (t.tail + 1) in
     let s₀ = subst P (sym new) (entered_sound (sound t) c.args.cell by.kind by.first by.second c.requires.within
     z c.requires.led.first c.requires.led.second c.requires.led.first_found c.requires.led.second_found) in
-    let s = subst (λ (r : ℕ). Sound (vec_items c.enter.new.records) t.points t.facts t.size r t.head (t.tail + 1)) (sym c.requires.rank) s₀ in (
-      s.few_points,
-      (
-        s.few_facts,
-        (
-          s.product,
-          (
-            s.some,
-            (
-              s.held,
-              (
-                s.counted,
-                (
-                  s.ranks,
-                  (
-                    s.once,
-                    (
-                      s.firsts,
-                      (
-                        s.seconds,
-                        (s.first_found, (s.first_before, (s.second_found, (s.second_before, (s.ordered, (s.pushed, (s.slots, (s.waits, tt)))))))),
-                      ),
-                    ),
-                  ),
-                ),
-              ),
-            ),
-          ),
-        ),
-      ),
-    )
+    let s = subst (λ (r : ℕ). Sound (vec_items c.enter.new.records) t.points t.facts t.size r t.head (t.tail + 1)) (sym c.requires.rank) s₀ in
+    record {
+      few_points = s.few_points;
+      few_facts = s.few_facts;
+      product = s.product;
+      some = s.some;
+      held = s.held;
+      counted = s.counted;
+      ranks = s.ranks;
+      once = s.once;
+      firsts = s.firsts;
+      seconds = s.seconds;
+      first_found = s.first_found;
+      first_before = s.first_before;
+      second_found = s.second_found;
+      second_before = s.second_before;
+      ordered = s.ordered;
+      pushed = s.pushed;
+      slots = s.slots;
+      waits = s.waits;
+    }
 
 pub returns : goal.returns
 returns c =

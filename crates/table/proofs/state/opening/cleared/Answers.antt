@@ -22,37 +22,27 @@ invariant_of-result g c =
     let held : k ≤ length rs = has_size (handed m (g.Q.Problem.relation q) (g.Q.Problem.count q)) n f k points c.facts-facts.ensures c.cells_of-size.ensures rs c.requires in
     let some = some_cells n f (omega (arith, lawful.some_points)) (omega (arith, few.some, c.facts-facts.ensures)) in
     let P : List Record → Type 0 = λ ys. Sound ys n f k 0 0 0 in
-    let s = subst P (sym c.clear.ensures) (opened_sound rs k held n f (omega (arith, lawful.few_points)) (omega (arith, few.most, c.facts-facts.ensures)) c.cells_of-size.ensures (omega (arith, c.cells_of-size.ensures))) in (
-      s.few_points,
-      (
-        s.few_facts,
-        (
-          s.product,
-          (
-            s.some,
-            (
-              s.held,
-              (
-                s.counted,
-                (
-                  s.ranks,
-                  (
-                    s.once,
-                    (
-                      s.firsts,
-                      (
-                        s.seconds,
-                        (s.first_found, (s.first_before, (s.second_found, (s.second_before, (s.ordered, (s.pushed, (s.slots, (s.waits, tt)))))))),
-                      ),
-                    ),
-                  ),
-                ),
-              ),
-            ),
-          ),
-        ),
-      ),
-    )
+    let s = subst P (sym c.clear.ensures) (opened_sound rs k held n f (omega (arith, lawful.few_points)) (omega (arith, few.most, c.facts-facts.ensures)) c.cells_of-size.ensures (omega (arith, c.cells_of-size.ensures))) in
+    record {
+      few_points = s.few_points;
+      few_facts = s.few_facts;
+      product = s.product;
+      some = s.some;
+      held = s.held;
+      counted = s.counted;
+      ranks = s.ranks;
+      once = s.once;
+      firsts = s.firsts;
+      seconds = s.seconds;
+      first_found = s.first_found;
+      first_before = s.first_before;
+      second_found = s.second_found;
+      second_before = s.second_before;
+      ordered = s.ordered;
+      pushed = s.pushed;
+      slots = s.slots;
+      waits = s.waits;
+    }
 
 pub returns : goal.returns
 returns g c =
