@@ -22,14 +22,14 @@ pub loop-b-preserved : goal.loop-b-preserved
 loop-b-preserved g c =
     let x = c.args in
     let q = x.problem.now in
-    let f = answers_row (g.Q.Problem.relation q) (g.Q.Problem.count q) x.x x.result x.call in
+    let f = answers_row (g.Q.Problem.relation q) (g.Q.Problem.count q) x.x x.ret_cell x.call in
     (kept_then _ _ _ c.loop-b.invariant.0 c.answer_row.ensures.kept, turn f c.loop-b.b (inner x.self.now) _ _ c.loop-b.invariant.1 c.answer_row.ensures.after)
 
 pub returns : goal.returns
 returns g c =
     let x = c.args in
     let q = x.problem.now in
-    let f = answers_row (g.Q.Problem.relation q) (g.Q.Problem.count q) x.x x.result x.call in
+    let f = answers_row (g.Q.Problem.relation q) (g.Q.Problem.count q) x.x x.ret_cell x.call in
     record {
       kept = c.loop-b.invariant.0;
       after = all_turns f c.loop-b.b (g.Q.Problem.count q) (inner x.self.now) _ c.loop-b.invariant.1 (omega (arith, c.loop-b-test.false, c.loop-b.auto.b-end, c.requires.facts));

@@ -23,14 +23,14 @@ pub loop-f-preserved : goal.loop-f-preserved
 loop-f-preserved g c =
     let x = c.args in
     let q = x.problem.now in
-    let f = answers_cell (g.Q.Problem.relation q) (g.Q.Problem.count q) x.x x.result x.call x.b.0 in
+    let f = answers_cell (g.Q.Problem.relation q) (g.Q.Problem.count q) x.x x.ret_cell x.call x.b.0 in
     (kept_then _ _ _ c.loop-f.invariant.0 c.answer_cell.ensures.kept, turn f c.loop-f.f (inner x.self.now) _ _ c.loop-f.invariant.1 c.answer_cell.ensures.after)
 
 pub returns : goal.returns
 returns g c =
     let x = c.args in
     let q = x.problem.now in
-    let f = answers_cell (g.Q.Problem.relation q) (g.Q.Problem.count q) x.x x.result x.call x.b.0 in
+    let f = answers_cell (g.Q.Problem.relation q) (g.Q.Problem.count q) x.x x.ret_cell x.call x.b.0 in
     record {
       kept = c.loop-f.invariant.0;
       after = all_turns f c.loop-f.f (g.Q.Problem.count q) (inner x.self.now) _ c.loop-f.invariant.1 (omega (arith, c.loop-f-test.false, c.loop-f.auto.f-end, c.requires.facts));

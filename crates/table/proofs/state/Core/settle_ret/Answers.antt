@@ -22,7 +22,7 @@ loop-caller-init g c =
     let m = g.P.Program.meaning x.program.now in
     let home = (below_some x.x.spot.point.0 (size m) (proc (procedure (flow m) x.x.spot.point.0)) c.in-Some.home c.in-Some.ensures).1 in
     let from = c.first_caller-caller.ensures ∙ ap (λ (p : Proc). call_from (flow m) p.0 0) (sym home) in
-    (kept_same _, at_first m (g.Q.Problem.relation x.problem.now) (g.Q.Problem.count x.problem.now) x.result x.x (inner x.self.now) c.first_caller-caller.result from)
+    (kept_same _, at_first m (g.Q.Problem.relation x.problem.now) (g.Q.Problem.count x.problem.now) x.ret_cell x.x (inner x.self.now) c.first_caller-caller.result from)
 
 pub returns-in_default-statement : goal.returns-in_default-statement
 returns-in_default-statement g c =
@@ -32,8 +32,8 @@ returns-in_default-statement g c =
     let F = g.Q.Problem.count x.problem.now in
     let start = inner x.self.now in
     let at = c.in-Some-caller.at in
-    let here = subst (λ (o : Option Point). Progress m Q F x.result x.x start o (inner c.loop-caller.self)) c.in-Some-caller.is c.loop-caller.invariant.1 in
-    absurd (no_statement m Q F x.result x.x start at c.in_default-statement.ensures here.1)
+    let here = subst (λ (o : Option Point). Progress m Q F x.ret_cell x.x start o (inner c.loop-caller.self)) c.in-Some-caller.is c.loop-caller.invariant.1 in
+    absurd (no_statement m Q F x.ret_cell x.x start at c.in_default-statement.ensures here.1)
 
 pub answer_call-requires : goal.answer_call-requires
 answer_call-requires g c =
@@ -43,9 +43,9 @@ answer_call-requires g c =
     let F = g.Q.Problem.count x.problem.now in
     let start = inner x.self.now in
     let at = c.in-Some-caller.at in
-    let here = subst (λ (o : Option Point). Progress m Q F x.result x.x start o (inner c.loop-caller.self)) c.in-Some-caller.is c.loop-caller.invariant.1 in
+    let here = subst (λ (o : Option Point). Progress m Q F x.ret_cell x.x start o (inner c.loop-caller.self)) c.in-Some-caller.is c.loop-caller.invariant.1 in
     let k = c.loop-caller.invariant.0 in
-    let next = after_call m Q F x.result x.x start (g.P.Program.lawful x.program.now) at c.in-Some-statement.statement c.in-Some-statement.ensures here.1 in
+    let next = after_call m Q F x.ret_cell x.x start (g.P.Program.lawful x.program.now) at c.in-Some-statement.statement c.in-Some-statement.ensures here.1 in
     record { facts = k.facts ∙ c.requires.facts; stands = stands_still _ _ _ k c.requires.stands; next = omega (arith, k.points, c.requires.points) }
 
 pub loop-caller-preserved : goal.loop-caller-preserved
@@ -56,10 +56,10 @@ loop-caller-preserved g c =
     let F = g.Q.Problem.count x.problem.now in
     let start = inner x.self.now in
     let at = c.in-Some-caller.at in
-    let here = subst (λ (o : Option Point). Progress m Q F x.result x.x start o (inner c.loop-caller.self)) c.in-Some-caller.is c.loop-caller.invariant.1 in
+    let here = subst (λ (o : Option Point). Progress m Q F x.ret_cell x.x start o (inner c.loop-caller.self)) c.in-Some-caller.is c.loop-caller.invariant.1 in
     let number = c.requires.stands.number ∙ ap (λ (f : ℕ). number_of f (cell_of x.x.spot)) c.requires.facts in (
       kept_then _ _ _ c.loop-caller.invariant.0 c.answer_call.ensures.kept,
-      at_next m Q F x.result x.x start at c.in-Some-statement.statement c.in-Some-statement.ensures here.1
+      at_next m Q F x.ret_cell x.x start at c.in-Some-statement.statement c.in-Some-statement.ensures here.1
           (inner c.loop-caller.self) (inner c.answer_call.new.self) here.0 number c.answer_call.ensures.after c.next_caller-caller.result c.next_caller-caller.ensures,
     )
 
@@ -71,8 +71,8 @@ loop-caller-smaller g c =
     let F = g.Q.Problem.count x.problem.now in
     let start = inner x.self.now in
     let at = c.in-Some-caller.at in
-    let here = subst (λ (o : Option Point). Progress m Q F x.result x.x start o (inner c.loop-caller.self)) c.in-Some-caller.is c.loop-caller.invariant.1 in
-    let f = fewer m Q F x.result x.x start at c.in-Some-statement.statement c.in-Some-statement.ensures here.1 c.next_caller-caller.result c.next_caller-caller.ensures in
+    let here = subst (λ (o : Option Point). Progress m Q F x.ret_cell x.x start o (inner c.loop-caller.self)) c.in-Some-caller.is c.loop-caller.invariant.1 in
+    let f = fewer m Q F x.ret_cell x.x start at c.in-Some-statement.statement c.in-Some-statement.ensures here.1 c.next_caller-caller.result c.next_caller-caller.ensures in
     subst (λ (o : Option Point). left (size m) c.next_caller-caller.result < left (size m) o) (sym c.in-Some-caller.is) f
 
 pub returns : goal.returns
@@ -80,5 +80,5 @@ returns g c =
     let x = c.args in
     record {
       kept = c.loop-caller.invariant.0;
-      after = subst (λ (o : Option Point). Progress (g.P.Program.meaning x.program.now) (g.Q.Problem.relation x.problem.now) (g.Q.Problem.count x.problem.now) x.result x.x (inner x.self.now) o (inner c.loop-caller.self)) c.in_default-caller.is c.loop-caller.invariant.1;
+      after = subst (λ (o : Option Point). Progress (g.P.Program.meaning x.program.now) (g.Q.Problem.relation x.problem.now) (g.Q.Problem.count x.problem.now) x.ret_cell x.x (inner x.self.now) o (inner c.loop-caller.self)) c.in_default-caller.is c.loop-caller.invariant.1;
     }
