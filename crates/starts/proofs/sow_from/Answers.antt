@@ -49,12 +49,12 @@ ended h ss left t u none e k = (
       subst (λ (xs : List (ℕ × ℕ)). Standing h first xs (Open u)) (sym (ap (λ (xs : List Start). accepted_all h xs u now) none) ∙ same) here,
 )
 
-pub returns-in-default : goal.returns-in-default
-returns-in-default g c =
+pub returns-in_default : goal.returns-in_default
+returns-in_default g c =
     let q = c.args.problem.now in
     let h : Handed = handed (g.P.Program.meaning c.args.program.now) (g.Q.Problem.relation q) (g.Q.Problem.count q) in
     let all = g.Q.Problem.starts q in
-    let r = ended h (drop c.args.first (take 255 all)) (drop c.loop-i.i (take 255 all)) (state c.args.table.now) (state c.loop-i.table) (spent all c.loop-i.i 255 c.in-default.ensures) c.loop-i.invariant.0 c.loop-i.invariant.1 in
+    let r = ended h (drop c.args.first (take 255 all)) (drop c.loop-i.i (take 255 all)) (state c.args.table.now) (state c.loop-i.table) (spent all c.loop-i.i 255 c.in_default.ensures) c.loop-i.invariant.0 c.loop-i.invariant.1 in
     record { after = r.0; counts = c.loop-i.invariant.2; carries = record { row = r.1 } }
 
 pub returns : goal.returns

@@ -9,14 +9,14 @@ pub unreachable-requires : goal.unreachable-requires
 unreachable-requires g c =
     let q = c.args.problem.now in
     let h : Handed = handed (g.P.Program.meaning c.args.program.now) (g.Q.Problem.relation q) (g.Q.Problem.count q) in
-    not_refused h c.records-for.result (vec_items c.in-ok-memory.memory) c.records-for.ensures c.in-ok-memory.ensures
-    (number_of c.in-default.field-0.fault) c.in-default.ensures.answers
+    not_refused h c.records_for.result (vec_items c.in_ok-memory.memory) c.records_for.ensures c.in_ok-memory.ensures
+    (number_of c.in_default.field-0.fault) c.in_default.ensures.answers
 
 pub returns : goal.returns
 returns g c =
     let q = c.args.problem.now in
     let h : Handed = handed (g.P.Program.meaning c.args.program.now) (g.Q.Problem.relation q) (g.Q.Problem.count q) in
     let made = c.in-Ok.ensures.made in
-    sown_from h c.records-for.result (vec_items c.in-ok-memory.memory) c.records-for.ensures c.in-ok-memory.ensures
-    (g.Q.Problem.starts q) (state c.in-Ok.table) (state c.sow-starts.new.table) made.state_is made.exact
-    c.sow-starts.ensures.after c.sow-starts.ensures.counts c.sow-starts.ensures.carries
+    sown_from h c.records_for.result (vec_items c.in_ok-memory.memory) c.records_for.ensures c.in_ok-memory.ensures
+    (g.Q.Problem.starts q) (state c.in-Ok.table) (state c.sow_starts.new.table) made.state_is made.exact
+    c.sow_starts.ensures.after c.sow_starts.ensures.counts c.sow_starts.ensures.carries

@@ -59,10 +59,10 @@ loop-preserved g c =
     let on : u ≡ worked_on h k from t = works_on h k from t u none answer works in
     let waits : 0 < length t.waiting = (let e = ap (λ (x : Tallies). x.waiting) c.tallies.ensures.value in let d = c.if-tallies-eq0.false in omega arith) in
     let below : i < n = c.loop-test.true in
-    let line : string_bytes c.in-ok-line.line ≡ tallies_line u =
-    c.in-ok-line.ensures.ok ∙ ap (λ (x : Tallies). tallies_text x ++ (10 ∷ [])) c.tallies-tallies.ensures.value in
-    let text : string_bytes c.push-str.new.self ≡ string_bytes c.loop.out ++ tallies_line u =
-    c.in-ok-push-str.ensures.bytes ∙ ap (λ (b : List ℕ). string_bytes c.loop.out ++ b) (c.as-str.ensures.value ∙ line) in (
+    let line : string_bytes c.in_ok-line.line ≡ tallies_line u =
+    c.in_ok-line.ensures.ok ∙ ap (λ (x : Tallies). tallies_text x ++ (10 ∷ [])) c.tallies-tallies.ensures.value in
+    let text : string_bytes c.push_str.new.self ≡ string_bytes c.loop.out ++ tallies_line u =
+    c.in_ok-push_str.ensures.bytes ∙ ap (λ (b : List ℕ). string_bytes c.loop.out ++ b) (c.as_str.ensures.value ∙ line) in (
       ap (λ (b : List ℕ). b ++ lines (n - (i + 1)) h k from u) text ∙ lines_more h k from n i t u below waits on (string_bytes c.loop.out) ∙ inv.0,
       last_more h k from n i t u below waits on ∙ inv.1,
       elim inv.2 [

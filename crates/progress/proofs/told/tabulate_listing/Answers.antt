@@ -11,11 +11,11 @@ returns-in-Ok c =
     let r = c.in-Ok.ensures.reads in
     let k = c.args.portion.size in
     record {
-      text = IfOk-weaker c.tabulate-under.result _ (λ s. string_bytes s ≡ told_of c.args.bytes.now c.args.choice k c.args.from)
+      text = IfOk-weaker c.tabulate_under.result _ (λ s. string_bytes s ≡ told_of c.args.bytes.now c.args.choice k c.args.from)
           (λ s e. e ∙ (ap (λ b. chosen c.args.choice (meaning_of b) k c.args.from) r.1 ∙ sym (ap (λ o. over_read o c.args.choice k c.args.from) r.0)))
-          c.tabulate-under.ensures.text;
-      law = IfOk-weaker c.tabulate-under.result _ (λ s. ListingCounted c.args.bytes.now c.args.choice (string_bytes s))
+          c.tabulate_under.ensures.text;
+      law = IfOk-weaker c.tabulate_under.result _ (λ s. ListingCounted c.args.bytes.now c.args.choice (string_bytes s))
           (λ s e. subst (λ (o : Result Meaning Refusal). OverCounted o c.args.choice (string_bytes s)) (sym r.0)
           (subst (λ (b : List ℕ). ChosenCounted c.args.choice (meaning_of b) (string_bytes s)) r.1 e))
-          c.tabulate-under.ensures.law;
+          c.tabulate_under.ensures.law;
     }
