@@ -1,6 +1,5 @@
 -- The first no about statements, question by question.
-use Rattle.std.proofs.Common.{◌≡◌, ℕ, ◌+◌, ◌<◌, Bool, ◌&&◌, eqb, ltb, List, length, get_or, Some, None, Ok, Err, Option, sym, refl, ap, ◌∙◌, ⊎_elim, arith}
-use Rattle.std.specs.List.{slice_get}
+use Rattle.std.proofs.Common.{◌≡◌, ℕ, ◌+◌, ◌<◌, Bool, List, length, Some, None, Ok, Err, Option, sym, refl, ap, ◌∙◌, ⊎_elim, arith}
 use Rattle.std.specs.Option.{option_map}
 use Rattle.std.proofs.lemmas.Bool.{cases_lt}
 use Rattle.std.proofs.lemmas.Bool.Decides.{nat_tests}
@@ -9,7 +8,6 @@ use Rattle.listing.specs.declared.control.Control.{Control}
 use Rattle.listing.specs.declared.control.Control.TheVariants.{Next, Goto, Test, Call, Ret}
 use Rattle.listing.specs.declared.numbers.Point.{Point}
 use Rattle.listing.specs.Lawful.{lands, together, stays}
-use Rattle.listing.specs.Procedures.{procedure}
 use Rattle.draft.specs.declared.procedures.Procedures.{Procedures}
 use Rattle.draft.specs.declared.question.Question.{Question}
 use Rattle.draft.specs.declared.question.Question.TheVariants as question

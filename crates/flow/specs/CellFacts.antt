@@ -1,7 +1,6 @@
 -- Problems about cells: F = G + L + 1, and fact c + 1 speaks of cell c.
 use Rattle.std.specs.Prelude.{ℕ, zero, suc, ◌+◌, ◌-◌, cond, List, [], ◌∷◌, Some, None, Option, ◌==◌, nat_lt}
 use Rattle.listing.specs.declared.numbers.Cell.{Cell}
-use Rattle.listing.specs.declared.numbers.Fact.{Fact}
 use Rattle.listing.specs.Meaning.{proc}
 use Rattle.flow.specs.declared.cells.CellCounts.{CellCounts}
 use Rattle.flow.specs.declared.interface.Start.{Start}

@@ -1,7 +1,6 @@
 -- A guarded rule keeps to its facts and edges, and keeps zero.
-use Rattle.std.specs.Prelude.{◌≡◌, ℕ, suc, ◌<◌, ◌≤◌, Bool, true, false, cond, ◌&&◌, ◌==◌, nat_lt, refl}
+use Rattle.std.specs.Prelude.{◌≡◌, ℕ, ◌≤◌, Bool, true, false, cond, ◌&&◌, ◌==◌, nat_lt, refl}
 use Rattle.std.proofs.Common.{sym, ap, ◌∙◌, arith, ltb-true, ltb-false, lt-ltb, ne_eqb}
-use Rattle.flow.specs.declared.edge.Edge.{Edge}
 use Rattle.flow.specs.Relation.{Rule, Within, KeepsZero, has, guarded}
 
 left : (a b : Bool) → (a && b) ≡ true → a ≡ true

@@ -4,7 +4,6 @@ use Rattle.listing.specs.declared.numbers.Cell.{Cell}
 use Rattle.listing.specs.declared.statement.Statement.{Statement}
 use Rattle.listing.specs.declared.statement.Statement.TheVariants as statement
 use Rattle.flow.specs.declared.cells.CellCounts.{CellCounts}
-use Rattle.flow.specs.declared.origin.Origin.{Origin}
 use Rattle.flow.specs.declared.origin.Origin.TheVariants.{Nothing, Zero, One, Two}
 use Rattle.flow.specs.declared.origin.Write.{Write}
 use Rattle.flow.specs.CellFacts.{facts_in}

@@ -1,11 +1,11 @@
 -- A line is read as a statement just where the statement is written so.
-use Rattle.std.proofs.Common.{◌≡◌, ℕ, ◌+◌, ◌-◌, ◌<◌, ◌≤◌, Bool, true, false, cond, not, ◌&&◌, eqb, leb, ◌⊎◌, List, [], ◌∷◌, ◌++◌, length, get_or, take, Some, None, codes, decimal, Option, sym, refl, ap, ◌∙◌, subst, inl, inr, ⊎_elim, arith}
+use Rattle.std.proofs.Common.{◌≡◌, ℕ, ◌+◌, ◌-◌, ◌<◌, ◌≤◌, Bool, true, false, cond, not, ◌&&◌, eqb, leb, List, [], ◌∷◌, ◌++◌, length, get_or, take, Some, None, codes, decimal, Option, sym, refl, ap, ◌∙◌, subst, ⊎_elim, arith}
 use Rattle.std.specs.Option.{option_map}
 use Rattle.std.specs.Char.{is_ascii_digit}
 use Rattle.std.specs.Str.{all_ascii_digits, bytes_eq}
 use Rattle.std.proofs.lemmas.Fmt.{digits_decimal}
 use Rattle.std.proofs.lemmas.Slice.Eq.{bytes_eq-Decides}
-use Rattle.std.proofs.lemmas.Bool.{cond-true, cond-false, cases_Bool, eqb-true, and_parts, and_from, not-true, ne_eqb, not_from_false, eq-eqb, le-leb, leb-true}
+use Rattle.std.proofs.lemmas.Bool.{cond-true, cond-false, cases_Bool, eqb-true, and_parts, and_from, not-true, not_from_false, eq-eqb, le-leb, leb-true}
 use Rattle.std.proofs.lemmas.Bool.Decides.{nat_tests}
 use Rattle.grammar.specs.declared.name.Name.{Name}
 use Rattle.grammar.specs.declared.name.Name.TheVariants.{Global, Local}
@@ -16,7 +16,7 @@ use Rattle.listing.specs.declared.statement.Statement.TheVariants.{Set, Move, Ad
 use Rattle.listing.specs.Meaning.{point, proc}
 use Rattle.grammar.specs.declared.name.Header.{Header}
 use Rattle.grammar.specs.Words.{longer, words}
-use Rattle.grammar.specs.Grammar.{body, then, named, operands, spelled, cells, counts, statement, header, one, two, three, target, branch, called}
+use Rattle.grammar.specs.Grammar.{body, then, named, operands, spelled, cells, counts, statement, header}
 use Rattle.grammar.specs.Spelling.{spaced, line_of, name_spelt, words_of, header_words, SmallName, Small, SmallHeader, ReadAs, StatementSpelt, HeaderSpelt}
 use Rattle.std.proofs.lemmas.List.{take_all, take_more, take_at, get_or_at, length_push}
 use Rattle.grammar.proofs.Prints.{own, given_some, mapped_some, SpellsAll, one_spells, two_spells, three_spells, target_spells, branch_spells, called_spells, counts_spells}

@@ -1,7 +1,7 @@
 -- What the one test of a lawful program says, part by part.
-use Rattle.std.proofs.Common.{◌≡◌, ℕ, ◌+◌, ◌≤◌, true}
+use Rattle.std.proofs.Common.{◌≡◌, ◌+◌, ◌≤◌, true}
 use Rattle.std.proofs.lemmas.Bool.{and_parts, leb-true}
-use Rattle.listing.specs.Lawful.{cells_in_range, points_in_range, each, every, owns, stays, exists, is_lawful}
+use Rattle.listing.specs.Lawful.{each, every, owns, stays, exists, is_lawful}
 use Rattle.listing.specs.Meaning.{Meaning, size, procs, flow}
 use Rattle.listing.specs.Procedures.{ends_in_ret}
 

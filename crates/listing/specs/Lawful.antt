@@ -1,8 +1,6 @@
 -- What a lawful program keeps, each as a test.
-use Rattle.std.specs.Prelude.{ℕ, ◌+◌, Bool, true, false, ◌&&◌, ltb, List, [], ◌∷◌, length, ◌==◌, nat_le, nat_lt}
+use Rattle.std.specs.Prelude.{ℕ, ◌+◌, Bool, true, ◌&&◌, ltb, List, [], ◌∷◌, length, ◌==◌, nat_le, nat_lt}
 use Rattle.listing.specs.declared.numbers.Cell.{Cell}
-use Rattle.listing.specs.declared.numbers.Point.{Point}
-use Rattle.listing.specs.declared.numbers.Proc.{Proc}
 use Rattle.listing.specs.declared.control.Control.{Control}
 use Rattle.listing.specs.declared.control.Control.TheVariants.{Next, Goto, Test, Call, Ret}
 use Rattle.listing.specs.declared.statement.Statement.{Statement}

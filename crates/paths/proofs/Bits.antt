@@ -1,16 +1,15 @@
 -- A move's word read back, and the calls that a trail closes.
-use Rattle.std.proofs.Common.{◌≡◌, ℕ, ◌+◌, ◌*◌, ◌/◌, ◌%◌, ◌<◌, ◌≤◌, List, [], ◌∷◌, map, reverse, Some, Option, sym, refl, ap, ◌∙◌, add-zero, arith}
+use Rattle.std.proofs.Common.{◌≡◌, ℕ, ◌<◌, ◌≤◌, List, [], ◌∷◌, map, reverse, Some, Option, refl, ap, ◌∙◌, arith}
 use mathlib.Core.List.{reverse_aux}
-use lib.Arith.{digits_div, digits_mod}
 use Rattle.listing.specs.declared.statement.Statement.TheVariants.{Call}
 use Rattle.flow.specs.Relation.{Rule, Within}
 use Rattle.moves.specs.declared.moves.Move.{Move}
 use Rattle.moves.proofs.Inverse.{read_back}
-use Rattle.moves.specs.Words.{code, decode, encoded}
+use Rattle.moves.specs.Words.{decode, encoded}
 use Rattle.paths.specs.Supergraph.{Supergraph, Lawful}
 use Rattle.paths.proofs.Bounds.{step_bound, past_bound, call_bound, return_bound}
 use Rattle.paths.specs.Paths.{Matched, start, step, past, call, return}
-use Rattle.paths.specs.Words.{kind_of, spelt}
+use Rattle.paths.specs.Words.{spelt}
 
 -- each word's point and fact are in range
 abbrev pub Ranged : ℕ → ℕ → List Move → Type 0

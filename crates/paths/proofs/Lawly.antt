@@ -10,9 +10,7 @@ use Rattle.paths.specs.Supergraph.{Supergraph}
 use Rattle.paths.specs.Paths.{ReachedCell}
 use Rattle.paths.specs.Table.{cell, number_of, Found}
 use Rattle.paths.specs.Theorem.{Accepted}
-use Rattle.paths.specs.Trail as trail
 use Rattle.paths.specs.Trail.{PathTo}
-use Rattle.paths.specs.Machine as m
 use Rattle.paths.specs.Machine.{both, opened}
 use Rattle.paths.specs.Rows as rows
 use Rattle.paths.specs.Rows.{After}

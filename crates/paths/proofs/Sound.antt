@@ -1,5 +1,5 @@
 -- What is found is reached, in a table whose found cells are justified.
-use Rattle.std.proofs.Common.{◌≡◌, ℕ, zero, suc, ◌+◌, ◌≤◌, T, List, [], ◌∷◌, ◌++◌, Some, sym, subst, inl, inr, arith}
+use Rattle.std.proofs.Common.{◌≡◌, ℕ, zero, suc, ◌≤◌, T, List, [], ◌∷◌, ◌++◌, Some, sym, subst, inl, inr, arith}
 use Rattle.listing.specs.declared.numbers.Cell.{Cell}
 use Rattle.listing.specs.declared.numbers.Proc.{Proc}
 use Rattle.listing.specs.declared.statement.Statement.TheVariants.{Call}

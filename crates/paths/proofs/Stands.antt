@@ -1,5 +1,5 @@
 -- A row of calls is a row of the table of cells.
-use Rattle.std.proofs.Common.{◌≡◌, ℕ, ◌+◌, ◌<◌, Bool, true, false, cond, T, eqb, ltb, List, [], ◌∷◌, ◌++◌, map, Some, None, Option, sym, refl, ◌∙◌, subst, arith, eqb→eq, ltb→lt}
+use Rattle.std.proofs.Common.{◌≡◌, ℕ, ◌<◌, Bool, true, false, cond, T, eqb, ltb, List, [], ◌∷◌, ◌++◌, map, Some, None, Option, sym, refl, ◌∙◌, subst, arith, eqb→eq, ltb→lt}
 use Rattle.paths.specs.Table.{TableCell, number_of}
 use Rattle.paths.specs.Machine as m
 use Rattle.paths.specs.Machine.{both, opened}

@@ -1,7 +1,7 @@
 -- The trail check passes the words of paths, and tells the first word that leads nowhere.
-use Rattle.std.proofs.Common.{◌≡◌, ℕ, zero, suc, ◌+◌, ◌<◌, ◌≤◌, Bool, true, false, cond, not, T, eqb, leb, ◌⊎◌, List, [], ◌∷◌, ◌++◌, map, reverse, length, take, Some, None, Option, sym, refl, ap, ◌∙◌, subst, inl, inr, append_assoc, arith, eqb→eq, leb→le}
+use Rattle.std.proofs.Common.{◌≡◌, ℕ, zero, suc, ◌<◌, ◌≤◌, Bool, true, false, cond, not, T, leb, ◌⊎◌, List, [], ◌∷◌, ◌++◌, map, reverse, length, take, Some, None, Option, sym, refl, ap, ◌∙◌, subst, inl, inr, append_assoc, arith, leb→le}
 use mathlib.Core.List.{reverse_aux, reverse_aux-eq, reverse-reverse, map-append}
-use lib.Dec.{eqb_refl, nleb→lt}
+use lib.Dec.{nleb→lt}
 use Rattle.flow.specs.Relation.{Rule}
 use Rattle.moves.specs.declared.moves.Kind.{Kind}
 use Rattle.moves.specs.declared.moves.Kind.TheVariants as kind

@@ -1,7 +1,5 @@
 -- A table in memory: a record for each cell, by the cell's number.
 use Rattle.std.specs.Prelude.{◌≡◌, ℕ, zero, suc, ◌*◌, ◌<◌, ◌≤◌, List, length, slice_index_or, slice_set}
-use Rattle.moves.specs.declared.moves.Kind.{Kind}
-use Rattle.moves.specs.declared.moves.Kind.TheVariants as kind
 use Rattle.moves.specs.Words.{code}
 use Rattle.paths.specs.Table.{TableCell, number_of, Entry, Table}
 use Rattle.paths.specs.Machine.{put}

@@ -5,7 +5,6 @@ use Rattle.listing.specs.declared.numbers.Proc.{Proc}
 use Rattle.listing.specs.declared.statement.Statement.{Statement}
 use Rattle.listing.specs.declared.statement.Statement.TheVariants.{Call, Ret}
 use Rattle.flow.specs.Relation.{Rule}
-use Rattle.moves.specs.declared.moves.Kind.{Kind}
 use Rattle.moves.specs.declared.moves.Kind.TheVariants as kind
 use Rattle.moves.specs.declared.moves.Move.{Move}
 use Rattle.moves.specs.Words.{arrives}

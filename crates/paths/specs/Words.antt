@@ -1,5 +1,5 @@
 -- A move as a word of 32 bits, and the trail that the records of a table lead back along. No program is asked.
-use Rattle.std.specs.Prelude.{ℕ, zero, suc, ◌+◌, ◌*◌, ◌/◌, ◌%◌, max, Bool, true, false, cond, List, [], ◌∷◌, map, reverse, Some, None, Option, ◌==◌}
+use Rattle.std.specs.Prelude.{ℕ, zero, suc, max, Bool, true, false, cond, List, [], ◌∷◌, map, reverse, Some, None, Option, ◌==◌}
 use Rattle.moves.specs.declared.moves.Kind.{Kind}
 use Rattle.moves.specs.declared.moves.Kind.TheVariants as kind
 use Rattle.moves.specs.declared.moves.Move.{Move}

@@ -1,14 +1,14 @@
 -- One start after the other.
-use Rattle.std.proofs.Common.{◌≡◌, ℕ, zero, suc, ◌+◌, ◌<◌, ◌≤◌, Bool, true, false, List, [], ◌∷◌, length, take, drop, Some, None, Option, sym, refl, ap, ◌∙◌, subst, arith}
+use Rattle.std.proofs.Common.{◌≡◌, ℕ, zero, suc, ◌+◌, ◌<◌, List, [], ◌∷◌, take, drop, Some, None, Option, sym, refl, ap, ◌∙◌, arith}
 use Rattle.std.proofs.lemmas.List.{drop_all, length-take}
 use Rattle.std.specs.List.{slice_get}
 use Rattle.flow.specs.declared.interface.Start.{Start}
 use Rattle.listing.proofs.Lists.{drop_nth, nth_none}
-use Rattle.paths.specs.Does.{Handed, Answer, gives, refuses, answer_by, one_if_new, Open, Sows, Sow, sown, Call}
+use Rattle.paths.specs.Does.{Handed, Answer, answer_by, one_if_new, Open, Sows, Sow, sown, Call}
 use Rattle.paths.specs.Law.{accepted}
 use Rattle.paths.specs.Tabled.{Tabled, is_found, start_cell}
 use Rattle.paths.specs.Usage.{Standing}
-use Rattle.starts.specs.Sown.{start_no, sown_one, sown_all, accepted_by, accepted_all}
+use Rattle.starts.specs.Sown.{start_no, accepted_by}
 
 module _ (h : Handed) (s : Start) (t u : Tabled) (answer : Answer) (sows : Sows h s.procedure.0 s.fact.0 t answer u) where
   counted : (o : Option ℕ) (k : ℕ) (calls : List Call) → accepted (Sow h s.procedure.0 s.fact.0 (answer_by o k) ∷ calls) ≡ accepted_by o s (accepted calls)

@@ -1,12 +1,12 @@
 -- What finding a cell does to the memory and the counters is what it does to the state.
-use Rattle.std.proofs.Common.{◌≡◌, ℕ, zero, suc, ◌+◌, ◌-◌, ◌<◌, ◌≤◌, true, false, List, [], ◌∷◌, ◌++◌, map, length, set, sym, refl, ap, ◌∙◌, add-one, arith}
+use Rattle.std.proofs.Common.{◌≡◌, ℕ, zero, suc, ◌+◌, ◌-◌, ◌<◌, ◌≤◌, true, false, List, map, length, set, sym, refl, ap, ◌∙◌, add-one, arith}
 use Rattle.std.proofs.lemmas.Bool.{ltb-true, ltb-false}
 use Rattle.moves.specs.declared.moves.Kind.{Kind}
 use Rattle.moves.specs.Words.{code}
 use Rattle.paths.specs.Memory.{Rec}
 use Rattle.paths.specs.Tabled.{Tabled, record_at, find_at, find, is_found}
-use Rattle.table.specs.Records.{at, written, entered}
-use Rattle.table.specs.State.{rec, row, state_of}
+use Rattle.table.specs.Records.{at, entered}
+use Rattle.table.specs.State.{rec, state_of}
 use Rattle.records.specs.declared.record.Record.{Record}
 use Rattle.table.proofs.Writing.{rec_at, new_records, new_row}
 

@@ -1,5 +1,5 @@
 -- The numbers of cells.
-use Rattle.std.proofs.Common.{◌≡◌, ℕ, zero, suc, ◌+◌, ◌*◌, ◌/◌, ◌%◌, ◌<◌, ◌≤◌, sym, refl, ap, ◌∙◌, mod-lt, div-lt_iff_lt-mul, mul-zero, div-add-mod', arith}
+use Rattle.std.proofs.Common.{◌≡◌, ℕ, zero, suc, ◌+◌, ◌*◌, ◌/◌, ◌%◌, ◌<◌, ap, ◌∙◌, mod-lt, div-lt_iff_lt-mul, mul-zero, div-add-mod', arith}
 use Rattle.paths.specs.Table.{number_of}
 use Rattle.paths.specs.Tabled.{cell_at}
 

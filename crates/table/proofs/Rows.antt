@@ -1,7 +1,7 @@
 -- The row of the cells that wait, at its two ends.
-use Rattle.std.proofs.Common.{◌≡◌, ℕ, zero, suc, ◌+◌, ◌-◌, ◌<◌, ◌≤◌, List, [], ◌∷◌, ◌++◌, map, length, get_or, take, drop, Some, None, sym, refl, ap, ◌∙◌, subst, arith}
+use Rattle.std.proofs.Common.{◌≡◌, ℕ, suc, ◌+◌, ◌-◌, ◌<◌, ◌≤◌, List, [], ◌∷◌, ◌++◌, map, length, get_or, take, drop, Some, None, sym, ap, ◌∙◌, arith}
 use Rattle.std.proofs.lemmas.List.{drop_more, take_more, map_push, get_or-drop, length-drop, length-take-le, length-map}
-use Rattle.paths.specs.Tabled.{Tabled, newest_of, taken}
+use Rattle.paths.specs.Tabled.{Tabled, newest_of}
 use Rattle.paths.specs.declared.worklist.End.{End}
 use Rattle.paths.specs.declared.worklist.End.TheVariants.{Oldest, Newest}
 use Rattle.records.specs.Blank.{blank}

@@ -1,5 +1,5 @@
 -- Settling one cell after the other.
-use Rattle.std.proofs.Common.{◌≡◌, ℕ, zero, suc, ◌+◌, ◌-◌, ◌<◌, ◌≤◌, List, [], ◌∷◌, Some, None, sym, refl, ap, ◌∙◌, subst, suc-add, zero-add, arith}
+use Rattle.std.proofs.Common.{◌≡◌, ℕ, zero, suc, ◌+◌, ◌-◌, ◌<◌, List, [], ◌∷◌, Some, None, sym, refl, ap, ◌∙◌, suc-add, zero-add, arith}
 use Rattle.flow.specs.Relation.{Rule}
 use Rattle.paths.specs.Supergraph.{Supergraph}
 use Rattle.paths.specs.Tabled.{Tabled, cell_at, settle, work_one, work}

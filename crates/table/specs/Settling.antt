@@ -1,5 +1,5 @@
 -- What settling finds, in the parts in which it is done.
-use Rattle.std.specs.Prelude.{◌≡◌, ℕ, ◌+◌, ◌<◌, ◌≤◌, Bool, List, Some, None, Option}
+use Rattle.std.specs.Prelude.{◌≡◌, ℕ, ◌+◌, ◌<◌, ◌≤◌, Some, None, Option}
 use Rattle.listing.specs.Meaning.{Meaning, flow, size, procs, statement_at}
 use Rattle.listing.specs.Procedures.{entry, exit}
 use Rattle.listing.specs.declared.numbers.Point.{Point}
@@ -14,7 +14,7 @@ use Rattle.moves.specs.declared.moves.Kind.{Kind}
 use Rattle.moves.specs.declared.moves.Kind.TheVariants as kind
 use Rattle.paths.specs.Machine.{both}
 use Rattle.paths.specs.Supergraph.{successors, Follows}
-use Rattle.paths.specs.Table.{TableCell, cell, number_of}
+use Rattle.paths.specs.Table.{cell, number_of}
 use Rattle.paths.specs.Tabled.{Tabled, find, is_found, each, each_of, where_yes}
 use Rattle.table.specs.State.{cell_of, Inside, Found}
 use Rattle.table.specs.declared.sites.Callee.{Callee}

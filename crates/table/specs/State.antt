@@ -1,5 +1,5 @@
 -- The state of a table, as its calls' definitions speak of it.
-use Rattle.std.specs.Prelude.{◌≡◌, ℕ, ◌+◌, ◌-◌, ◌<◌, ◌≤◌, true, T, List, map, length, take, drop, Some, None, vec_items, Option}
+use Rattle.std.specs.Prelude.{◌≡◌, ℕ, ◌-◌, ◌<◌, true, List, map, take, drop, Some, None, vec_items, Option}
 use Rattle.moves.specs.declared.moves.Kind.{Kind}
 use Rattle.moves.specs.Words.{code}
 use Rattle.paths.specs.Table.{TableCell, cell}

@@ -1,29 +1,23 @@
 -- What holds of a text to which no question has a no.
-use Rattle.std.proofs.Common.{◌≡◌, ℕ, zero, suc, ◌+◌, ◌<◌, ◌≤◌, Bool, true, false, cond, not, ◌&&◌, ltb, leb, List, [], ◌∷◌, map, length, is_some, Some, None, Option, sym, refl, ap, ◌∙◌, subst, arith}
-use Rattle.std.specs.List.{slice_get}
+use Rattle.std.proofs.Common.{◌≡◌, ℕ, ◌+◌, Bool, true, false, cond, ltb, List, [], ◌∷◌, Some, None, Option, refl, ap, ◌∙◌, subst, arith}
 use Rattle.std.specs.Option.{option_map}
-use Rattle.std.proofs.lemmas.Bool.{and_from, and_parts, not-true, lt-ltb, ltb-true, cond-true}
-use Rattle.listing.proofs.Lists.{nth_map}
-use Rattle.listing.specs.Lawful.{cells_in_range, points_in_range, each, every, owns, stays, exists, is_lawful}
-use Rattle.listing.specs.Meaning.{Meaning, below, flow, size, procs}
-use Rattle.listing.specs.Procedures.{rets, ends_in_ret}
+use Rattle.std.proofs.lemmas.Bool.{and_from, not-true, lt-ltb, ltb-true}
+use Rattle.listing.specs.Lawful.{each, owns}
 use Rattle.listing.specs.Statements.{controlled, cells_of}
-use Rattle.listing.specs.declared.control.Control.{Control}
 use Rattle.listing.specs.declared.numbers.Cell.{Cell}
 use Rattle.listing.specs.declared.statement.Statement.{Statement}
 use Rattle.listing.specs.declared.statement.Statement.TheVariants.{Set, Move, Add, Read, Send, Goto, Test, Call, Ret, Trim}
-use Rattle.draft.specs.Rules.{failing, unless, unended, crowded, foreign, astray, missing, or_else, breach}
+use Rattle.draft.specs.Rules.{unended, crowded, foreign, astray, missing, or_else}
 use Rattle.draft.specs.declared.question.Question.{Question}
 use Rattle.draft.specs.declared.question.Refusal.{Refusal}
 use Rattle.draft.specs.declared.question.Breach.{Breach}
-use Rattle.draft.proofs.Failing.{passing, none_parts}
-use Rattle.grammar.specs.Grammar.{then, pair}
+use Rattle.grammar.specs.Grammar.{then}
 use Rattle.grammar.specs.declared.name.Name.{Name}
 use Rattle.grammar.specs.declared.name.Name.TheVariants.{Global, Local}
 use Rattle.grammar.proofs.Prints.{mapped_some, pair_some}
 use Rattle.text.specs.Cells.{cell_of, two_of, numbered}
-use Rattle.text.specs.Reading.{kept, collect, counted, written, flow_of, renumbered, meaning_of, or_true, owned_of, outsized, misformed, unranged, miscounted, on_line, or_next, refused, accepted}
-use Rattle.text.proofs.Written.{collect_nth, collect_length, none_from}
+use Rattle.text.specs.Reading.{flow_of, owned_of, outsized, misformed, unranged, miscounted, on_line, or_next, refused, accepted}
+use Rattle.text.proofs.Written.{none_from}
 
 -- every question is answered yes
 pub record Answered (t : List ℕ) : Type 0 where

@@ -1,9 +1,9 @@
 -- The law of reading holds of what reading answers.
-use Rattle.std.proofs.Common.{◌≡◌, ℕ, zero, suc, ◌+◌, ◌-◌, ◌<◌, ◌≤◌, Bool, true, false, cond, not, ◌&&◌, eqb, leb, ◌⊎◌, List, [], ◌∷◌, map, length, is_some, Some, None, Option, sym, refl, ap, ◌∙◌, subst, inl, inr, ⊎_elim, arith}
+use Rattle.std.proofs.Common.{◌≡◌, ℕ, zero, suc, ◌+◌, ◌-◌, ◌<◌, ◌≤◌, Bool, true, false, cond, eqb, leb, List, length, is_some, Some, None, Option, sym, refl, ap, ◌∙◌, subst, ⊎_elim, arith}
 use Rattle.std.specs.List.{slice_get}
 use Rattle.std.specs.Option.{option_map}
 use Rattle.std.proofs.lemmas.List.{length-map}
-use Rattle.std.proofs.lemmas.Bool.{cases_Bool, cases_lt, cond-true, cond-false, eq-eqb, ne_eqb, eqb-true, not_from_true, not_from_false, and_from, and_parts, and_left, and_right, leb-true, leb-false}
+use Rattle.std.proofs.lemmas.Bool.{cases_Bool, cases_lt, cond-true, cond-false, eq-eqb, ne_eqb, not_from_true, not_from_false, and_from, and_parts, and_left, and_right, leb-true, leb-false}
 use Rattle.listing.proofs.Lists.{nth_map}
 use Rattle.listing.specs.Lawful.{points_in_range, stays, exists}
 use Rattle.listing.specs.Procedures.{rets, procedure, exit, ends_in_ret}
@@ -11,7 +11,7 @@ use Rattle.listing.specs.Statements.{controlled, is_ret}
 use Rattle.listing.specs.declared.control.Control.{Control}
 use Rattle.listing.specs.declared.statement.Statement.{Statement}
 use Rattle.draft.specs.Questions.{number_of}
-use Rattle.draft.specs.Rules.{failing, unless, has_ret, unended, crowded, foreign, astray, missing, or_else, breach}
+use Rattle.draft.specs.Rules.{failing, unless, has_ret, unended, crowded, foreign, astray, missing, or_else}
 use Rattle.draft.specs.declared.question.Question.{Question}
 use Rattle.draft.specs.declared.question.Question.TheVariants.{Size, Form, Ranges, Length, End, Procedures, Cells, Jumps, Callees}
 use Rattle.draft.specs.declared.question.Refusal.{Refusal}
@@ -20,7 +20,7 @@ use Rattle.draft.proofs.Failing.{Least, passing, failing_least}
 use Rattle.draft.proofs.Flows.{exit_here, exit_ret, exit_inside, ret_counted}
 use Rattle.grammar.specs.declared.name.Name.{Name}
 use Rattle.text.specs.Lines.{lines}
-use Rattle.text.specs.Reading.{counted, written, flow_of, renumbered, formed, or_true, owned_of, outsized, misformed, unranged, miscounted, on_line, or_next, refused, answered}
+use Rattle.text.specs.Reading.{written, flow_of, renumbered, formed, or_true, owned_of, outsized, misformed, unranged, miscounted, on_line, or_next, refused, answered}
 use Rattle.text.specs.Law.{only_at, of_line, of_statement, few_before, holds, Yes, FirstNo, ReadsByLaw}
 use Rattle.text.proofs.Refusals.{passed}
 use Rattle.text.proofs.Written.{written_length}

@@ -1,18 +1,16 @@
 -- A text that is accepted means a lawful program.
-use Rattle.std.proofs.Common.{◌≡◌, ℕ, zero, suc, ◌+◌, ◌<◌, ◌≤◌, Bool, true, false, cond, ◌&&◌, leb, List, [], ◌∷◌, map, length, is_some, Some, None, Option, sym, refl, ap, ◌∙◌, subst, arith}
+use Rattle.std.proofs.Common.{◌≡◌, ℕ, suc, ◌+◌, Bool, true, leb, List, [], ◌∷◌, map, length, is_some, Some, None, Option, sym, refl, ap, ◌∙◌, arith}
 use Rattle.std.specs.List.{slice_get}
 use Rattle.std.specs.Option.{option_map}
 use Rattle.std.proofs.lemmas.List.{length-map}
 use Rattle.std.proofs.lemmas.Bool.{and_from, and_parts}
 use Rattle.listing.proofs.Lists.{nth_map}
-use Rattle.listing.specs.Lawful.{cells_in_range, points_in_range, each, every, owns, stays, exists, is_lawful}
-use Rattle.listing.specs.Meaning.{Meaning, flow, size, procs, totals, statement_at}
+use Rattle.listing.specs.Lawful.{points_in_range, each, every, owns, stays, exists, is_lawful}
+use Rattle.listing.specs.Meaning.{flow, size}
 use Rattle.listing.specs.Procedures.{rets, ends_in_ret}
 use Rattle.listing.specs.Statements.{controlled}
-use Rattle.listing.specs.declared.control.Control.{Control}
-use Rattle.listing.specs.declared.numbers.Cell.{Cell}
 use Rattle.listing.specs.declared.statement.Statement.{Statement}
-use Rattle.draft.specs.Rules.{failing, unless, unended, crowded, foreign, astray, missing}
+use Rattle.draft.specs.Rules.{failing, unended, crowded, foreign, astray, missing}
 use Rattle.draft.proofs.Failing.{passing, none_parts}
 use Rattle.grammar.specs.Grammar.{then}
 use Rattle.grammar.specs.declared.name.Name.{Name}

@@ -1,20 +1,11 @@
 -- The facts that a delivered text and a text that was read hold.
-use Rattle.std.proofs.Common.{◌≡◌, ℕ, ◌+◌, ◌<◌, true, false, not, leb, List, [], ◌∷◌, length, get_or, is_some, Some, None, codes, sym, refl, ap, ◌∙◌, arith}
+use Rattle.std.proofs.Common.{◌≡◌, ℕ, true, false, not, leb, List, length, is_some, None, ap, ◌∙◌}
 use Rattle.std.specs.Option.{option_map}
-use Rattle.std.specs.List.{slice_get}
-use Rattle.listing.specs.Callers.{call_from, call_after}
-use Rattle.listing.specs.Lawful.{is_lawful}
-use Rattle.listing.specs.Procedures.{rets, procedure, exit}
+use Rattle.listing.specs.Procedures.{rets}
 use Rattle.draft.specs.Index.{Callable}
-use Rattle.draft.specs.Rules.{unended, crowded, foreign, astray, missing, breach}
-use Rattle.draft.specs.declared.callers.Callers.{Callers}
-use Rattle.draft.specs.declared.procedures.Procedures.{Procedures}
-use Rattle.draft.specs.declared.question.Refusal.{Refusal}
-use Rattle.draft.specs.declared.question.Breach.{Breach}
+use Rattle.draft.specs.Rules.{crowded, missing, breach}
 use Rattle.text.specs.declared.survey.Survey.{Survey}
-use Rattle.text.specs.Lines.{lines, place}
-use Rattle.text.specs.Cases.{listed}
-use Rattle.text.specs.Reading.{counted, written, flow_of, owned_of, meaning_of, outsized, misformed, unranged, miscounted, on_line, refused, accepted}
+use Rattle.text.specs.Reading.{flow_of, owned_of, misformed, on_line, accepted}
 use Rattle.text.specs.Survey.{Surveyed}
 use Rattle.std.proofs.lemmas.Bool.{leb-true}
 use Rattle.text.proofs.Refusals.{past_four, passed}

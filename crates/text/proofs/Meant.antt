@@ -3,10 +3,9 @@ use Rattle.std.proofs.Common.{◌≡◌, ℕ, List, length, sym, ap, ◌∙◌}
 use Rattle.std.proofs.lemmas.List.{length-map}
 use Rattle.std.specs.List.{slice_get}
 use Rattle.listing.specs.Callers.{call_from, call_after, first_caller_of, next_caller_of}
-use Rattle.listing.specs.Meaning.{Meaning, below, point, proc, flow, size, procs, procedure_at, entry_of, exit_of}
+use Rattle.listing.specs.Meaning.{below, point, proc, flow, procedure_at, entry_of, exit_of}
 use Rattle.listing.specs.Procedures.{rets, procedure, entry, exit}
 use Rattle.listing.specs.Statements.{controlled}
-use Rattle.listing.specs.declared.control.Control.{Control}
 use Rattle.listing.specs.declared.numbers.Point.{Point}
 use Rattle.listing.specs.declared.numbers.Proc.{Proc}
 use Rattle.draft.specs.Index.{Describes, Threads}

@@ -1,4 +1,4 @@
-use Rattle.std.proofs.Common.{refl, ap, ◌∙◌}
+use Rattle.std.proofs.Common.{refl}
 use Rattle.draft.specs.Rules.{unended, crowded, foreign, astray, missing}
 use Rattle.text.specs.Reading.{counted, written, outsized, misformed, unranged, miscounted}
 use Rattle.cases.proofs.readings.Goals as goal

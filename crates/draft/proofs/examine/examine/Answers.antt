@@ -1,9 +1,8 @@
-use Rattle.std.proofs.Common.{◌≡◌, None, sym, ap, ◌∙◌}
-use Rattle.std.specs.Option.{option_map}
+use Rattle.std.proofs.Common.{sym, ap, ◌∙◌}
 use Rattle.std.proofs.lemmas.Result.{err_from_is_err_and}
 use Rattle.listing.specs.Lawful.{exists}
 use Rattle.draft.specs.declared.question.Question.TheVariants as question
-use Rattle.draft.specs.Rules.{failing, unended, foreign, missing, or_else}
+use Rattle.draft.specs.Rules.{failing, foreign, missing}
 use Rattle.draft.proofs.Verdicts.{asked_yes, asked_no, asked_none, astray_is, at_cells}
 use Rattle.draft.proofs.examine.examine.Goals as goal
 

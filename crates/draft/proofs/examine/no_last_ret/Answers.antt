@@ -1,7 +1,6 @@
-use Rattle.std.proofs.Common.{◌≡◌, ◌-◌, Bool, length, Some, sym, ap, ◌∙◌, arith}
+use Rattle.std.proofs.Common.{◌≡◌, ◌-◌, length, Some, sym, ap, ◌∙◌, arith}
 use Rattle.std.specs.List.{slice_get}
 use Rattle.std.proofs.lemmas.Bool.{cond-true, cond-false}
-use Rattle.listing.specs.Procedures.{ends_in_ret}
 use Rattle.draft.specs.Rules.{unended, has_ret}
 use Rattle.draft.proofs.Flows.{ends_last}
 use Rattle.draft.proofs.examine.no_last_ret.Goals as goal

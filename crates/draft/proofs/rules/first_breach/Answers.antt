@@ -1,5 +1,5 @@
 use Rattle.listing.proofs.Lists.{nth_none}
-use Rattle.std.proofs.Common.{◌≡◌, sym, ◌∙◌, arith}
+use Rattle.std.proofs.Common.{sym, ◌∙◌, arith}
 use Rattle.draft.proofs.Failing.{failing_here, failing_more, failing_none}
 use Rattle.draft.proofs.rules.first_breach.Goals as goal
 use Rattle.draft.proofs.rules.first_breach.Goals.{in-Some+else-not-keeps, in_default}

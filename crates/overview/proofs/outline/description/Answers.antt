@@ -1,4 +1,4 @@
-use Rattle.std.proofs.Common.{◌≡◌, ℕ, List, [], ◌∷◌, ◌++◌, string_bytes, sym, ap, ◌∙◌, append_assoc, add-one}
+use Rattle.std.proofs.Common.{◌≡◌, [], ◌∷◌, ◌++◌, string_bytes, sym, ap, ◌∙◌, append_assoc, add-one}
 use Rattle.listing.specs.Meaning.{totals}
 use Rattle.overview.specs.Outlined.{section, section_text, sections, heading_text}
 use Rattle.overview.proofs.outline.description.Goals as goal

@@ -1,4 +1,4 @@
-use Rattle.std.proofs.Common.{◌≡◌, ◌+◌, ◌-◌, sym, ap, ◌∙◌, arith}
+use Rattle.std.proofs.Common.{◌+◌, ◌-◌, sym, ap, ◌∙◌, arith}
 use Rattle.listing.specs.Procedures.{bump}
 use Rattle.overview.specs.Outlined.{calls_at, calls_from}
 use Rattle.overview.proofs.Sections.{calls_more}

@@ -1,6 +1,5 @@
-use Rattle.std.proofs.Common.{◌≡◌, ◌+◌, sym, ap, ◌∙◌, arith}
+use Rattle.std.proofs.Common.{arith}
 use Rattle.listing.proofs.Parts.{parts}
-use Rattle.overview.specs.Outlined.{section}
 use Rattle.overview.proofs.Sections.{entry_is, exit_is, exit_below, entry_before}
 use Rattle.overview.proofs.section.section_of.Goals as goal
 

@@ -1,4 +1,4 @@
-use Rattle.std.proofs.Common.{◌≡◌, ℕ, vec_items, sym, ap, ◌∙◌}
+use Rattle.std.proofs.Common.{vec_items}
 use Rattle.paths.specs.Does.{Handed, handed}
 use Rattle.records.specs.Faults.{number_of}
 use Rattle.table.specs.State.{state}

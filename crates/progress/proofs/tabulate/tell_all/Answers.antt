@@ -1,4 +1,4 @@
-use Rattle.std.proofs.Common.{◌≡◌, ℕ, ◌+◌, List, [], ◌++◌, take, string_bytes, sym, refl, ap, ◌∙◌, subst}
+use Rattle.std.proofs.Common.{◌≡◌, ℕ, ◌+◌, List, ◌++◌, string_bytes, ap, ◌∙◌}
 use Rattle.paths.specs.Does.{Handed, handed}
 use Rattle.paths.specs.Tabled.{Tabled}
 use Rattle.table.specs.State.{state}

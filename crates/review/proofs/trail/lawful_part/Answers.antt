@@ -1,4 +1,4 @@
-use Rattle.std.proofs.Common.{◌≡◌, take, sym, ap, ◌∙◌, arith}
+use Rattle.std.proofs.Common.{take, sym, ap, ◌∙◌, arith}
 use Rattle.trail_check.specs.Handing.{told}
 use Rattle.review.specs.Reviewed.{lawful_words}
 use Rattle.std.proofs.lemmas.List.{take_all}

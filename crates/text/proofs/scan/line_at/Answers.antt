@@ -1,5 +1,5 @@
 use Rattle.std.proofs.Common.{arith}
-use Rattle.text.proofs.Scans.{LineAt, line_found, line_last}
+use Rattle.text.proofs.Scans.{line_found, line_last}
 use Rattle.text.proofs.scan.line_at.Goals as goal
 
 pub returns-in-Some : goal.returns-in-Some

@@ -1,4 +1,4 @@
-use Rattle.std.proofs.Common.{◌≡◌, sym, ap, ◌∙◌}
+use Rattle.std.proofs.Common.{sym, ap, ◌∙◌}
 use Rattle.text.specs.Reading.{counted, head, or_zero}
 use Rattle.text.proofs.survey.counts_of.Goals as goal
 

@@ -1,9 +1,8 @@
-use Rattle.std.proofs.Common.{◌≡◌, ◌+◌, ◌-◌, ◌≤◌, true, false, length, Some, None, sym, ap, ◌∙◌, arith}
+use Rattle.std.proofs.Common.{◌≡◌, ◌+◌, ◌≤◌, true, false, length, sym, ap, ◌∙◌, arith}
 use Rattle.std.proofs.lemmas.Bool.{and_parts, leb-true}
 use Rattle.listing.specs.Lawful.{cells_in_range, points_in_range}
 use Rattle.grammar.specs.declared.name.Header.{Header}
-use Rattle.text.specs.Lines.{lines}
-use Rattle.text.specs.Reading.{counted, written, sized, outsized, misformed, unranged, miscounted}
+use Rattle.text.specs.Reading.{counted, written, outsized, unranged, miscounted}
 use Rattle.text.proofs.Refusals.{unless_no, unless_yes, no_size, no_form, no_ranges, no_length}
 use Rattle.text.proofs.Written.{written_length}
 use Rattle.text.proofs.survey.survey_of.Goals as goal

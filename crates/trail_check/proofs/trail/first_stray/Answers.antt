@@ -1,6 +1,6 @@
-use Rattle.std.proofs.Common.{◌≡◌, ◌+◌, ◌≤◌, [], length, drop, Some, None, sym, ap, ◌∙◌, arith}
-use Rattle.std.proofs.lemmas.List.{at_drop_all, nil_from_length}
-use Rattle.paths.specs.Checked.{stuck, check_no}
+use Rattle.std.proofs.Common.{length, Some, None, sym, ap, ◌∙◌, arith}
+use Rattle.std.proofs.lemmas.List.{at_drop_all}
+use Rattle.paths.specs.Checked.{stuck}
 use Rattle.paths.specs.Does.{handed}
 use Rattle.trail_check.specs.Handing.{open_in, spot_at}
 use Rattle.trail_check.proofs.Strays.{further, some_words, stray_here, stray_later, stray_first, verdict}

@@ -1,4 +1,4 @@
-use Rattle.std.proofs.Common.{◌≡◌, ◌≤◌, length, drop}
+use Rattle.std.proofs.Common.{◌≡◌, ◌≤◌, drop}
 use Rattle.paths.specs.Checked.{stuck, first_stuck}
 use Rattle.paths.specs.Does.{handed}
 use Rattle.trail_check.specs.Handing.{open_in, spot_at}

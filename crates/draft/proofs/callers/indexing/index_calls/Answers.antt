@@ -4,7 +4,6 @@ use Rattle.std.proofs.lemmas.List.{length-set}
 use Rattle.std.proofs.lemmas.Bool.{leb-true}
 use Rattle.draft.specs.Index.{called}
 use Rattle.draft.proofs.Calls.{Threaded, threaded_none, threaded_call, threaded_quiet}
-use Rattle.draft.proofs.callers.indexing.index_calls.Given as given
 use Rattle.draft.proofs.callers.indexing.index_calls.Goals as goal
 
 pub loop-n-init : goal.loop-n-init
@@ -21,8 +20,8 @@ loop-n-preserved-then-callee-lt-MOST_PROCEDURES g c =
       ap length c.link.ensures.heads ∙ (length-set _ _ _ ∙ inv.0),
       ap length c.link.ensures.leads ∙ (length-set _ _ _ ∙ inv.1),
       λ callable.
-        let later = subst (λ (m : ℕ). Threaded (g.D.Draft.flow c.args.draft.now) c.loop-n.first c.loop-n.next m) before (inv.2 callable) in
-        simp (c.link.ensures.heads, c.link.ensures.leads) (threaded_call _ _ _ _ later c.in-Some.callee here room within few),
+          let later = subst (λ (m : ℕ). Threaded (g.D.Draft.flow c.args.draft.now) c.loop-n.first c.loop-n.next m) before (inv.2 callable) in
+          simp (c.link.ensures.heads, c.link.ensures.leads) (threaded_call _ _ _ _ later c.in-Some.callee here room within few),
     )
 
 pub loop-n-preserved : goal.loop-n-preserved
@@ -32,6 +31,6 @@ loop-n-preserved g c =
       inv.0,
       inv.1,
       λ callable.
-        let later = subst (λ (m : ℕ). Threaded (g.D.Draft.flow c.args.draft.now) c.loop-n.first c.loop-n.next m) before (inv.2 callable) in
-        threaded_quiet _ _ _ _ later (sym (c.in_default.ensures ∙ ap called c.control.ensures)),
+          let later = subst (λ (m : ℕ). Threaded (g.D.Draft.flow c.args.draft.now) c.loop-n.first c.loop-n.next m) before (inv.2 callable) in
+          threaded_quiet _ _ _ _ later (sym (c.in_default.ensures ∙ ap called c.control.ensures)),
     )

@@ -1,10 +1,10 @@
-use Rattle.std.proofs.Common.{◌≡◌, ℕ, ◌+◌, ◌<◌, ◌≤◌, true, false, ◌≢◌, List, length, get_or, set, sym, ap, ◌∙◌, subst, arith, below_more}
+use Rattle.std.proofs.Common.{◌≡◌, ℕ, ◌+◌, ◌<◌, ◌≢◌, List, length, get_or, set, sym, ap, ◌∙◌, subst, arith, below_more}
 use Rattle.std.specs.List.{slice_get}
 use Rattle.std.proofs.lemmas.List.{length-set, get_or-set_same, get_or-set_other}
 use Rattle.std.proofs.lemmas.Bool.{leb-true}
 use Rattle.listing.specs.Procedures.{bump, rets, procedure, exit}
 use Rattle.draft.specs.Rules.{has_ret}
-use Rattle.draft.proofs.Flows.{procedure_more, procedure_le, procedure_all, exit_here, crowded_at, crowded_none}
+use Rattle.draft.proofs.Flows.{procedure_more, procedure_all, exit_here, crowded_at, crowded_none}
 use Rattle.draft.proofs.procedures.indexing.index.Goals as goal
 use Rattle.draft.proofs.procedures.indexing.index.Goals.{then-is_ret+else-count-eq-MOST_PROCEDURES, else-is_ret}
 

@@ -1,8 +1,7 @@
-use Rattle.std.proofs.Common.{◌≡◌, ◌≤◌, length, take, drop, sym, ap, ◌∙◌, add-one, arith}
+use Rattle.std.proofs.Common.{◌≤◌, length, ap, ◌∙◌, add-one, arith}
 use native.Mathlib.Nat.{sub-zero}
 use Rattle.std.proofs.lemmas.List.{take_rest, take_all}
-use Rattle.grammar.specs.Left.{left, left_in}
-use Rattle.grammar.specs.Words.{words}
+use Rattle.grammar.specs.Left.{left_in}
 use Rattle.grammar.proofs.Cuts.{words_cut, words_last}
 use Rattle.grammar.proofs.cursor.Words.cut.Goals as goal
 

@@ -1,6 +1,6 @@
 use Rattle.std.proofs.Common.{◌≡◌, ℕ, ◌+◌, ◌<◌, List, length, drop, vec_items, sym, refl, ap, ◌∙◌, subst, arith}
 use Rattle.table.specs.Records.{at, entered}
-use Rattle.table.specs.State.{state_of, Kept}
+use Rattle.table.specs.State.{state_of}
 use Rattle.table.specs.declared.sites.Lead.{Lead}
 use Rattle.records.specs.declared.record.Record.{Record}
 use Rattle.table.specs.declared.state.Core.{Core}

@@ -1,10 +1,7 @@
-use Rattle.std.proofs.Common.{◌≡◌, ℕ, ◌<◌, ◌≤◌, Some, None, Option, sym, refl, ap, ◌∙◌, arith}
-use Rattle.std.specs.List.{slice_get}
+use Rattle.std.proofs.Common.{◌≡◌, ℕ, Some, sym, ap, ◌∙◌, arith}
 use Rattle.listing.specs.declared.numbers.Cell.{Cell}
-use Rattle.listing.specs.declared.numbers.Proc.{Proc}
 use Rattle.listing.specs.declared.statement.Statement.{Statement}
 use Rattle.listing.specs.declared.statement.Statement.TheVariants.{Call, Ret}
-use Rattle.listing.specs.Meaning.{Meaning, size, procs, statement_at}
 use Rattle.listing.proofs.Lists.{nth_none}
 use Rattle.paths.proofs.Callees.{callee_below}
 use Rattle.paths.specs.Table.{number_of}

@@ -1,9 +1,6 @@
-use Rattle.std.proofs.Common.{◌≡◌, ℕ, ◌+◌, ◌<◌, List, sym, refl, ap, ◌∙◌, arith}
-use Rattle.paths.specs.Tabled.{each_of}
-use Rattle.table.specs.Settling.{step_to}
-use Rattle.table.specs.State.{inner}
-use Rattle.table.proofs.Kept.{kept_same, kept_then, stands_still}
-use Rattle.table.proofs.Onward.{onward, first_below, second_below}
+use Rattle.std.proofs.Common.{refl, ◌∙◌, arith}
+use Rattle.table.proofs.Kept.{stands_still}
+use Rattle.table.proofs.Onward.{first_below, second_below}
 use Rattle.table.proofs.state.Core.settle_plain.Goals as goal
 
 pub step_to-requires : goal.step_to-requires

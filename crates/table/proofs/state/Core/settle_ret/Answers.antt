@@ -1,4 +1,4 @@
-use Rattle.std.proofs.Common.{◌≡◌, ℕ, ◌<◌, Some, None, Option, sym, refl, ap, ◌∙◌, subst, arith}
+use Rattle.std.proofs.Common.{ℕ, ◌<◌, Option, sym, ap, ◌∙◌, subst, arith}
 use Rattle.listing.specs.Callers.{call_from}
 use Rattle.listing.specs.Meaning.{flow, size, proc}
 use Rattle.listing.specs.Procedures.{procedure}

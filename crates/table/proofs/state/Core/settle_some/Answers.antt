@@ -1,4 +1,4 @@
-use Rattle.std.proofs.Common.{◌≡◌, ℕ, suc, ◌+◌, ◌-◌, ◌<◌, sym, refl, ap, ◌∙◌, arith}
+use Rattle.std.proofs.Common.{◌≡◌, ℕ, ◌+◌, ◌-◌, sym, refl, ap, ◌∙◌, arith}
 use Rattle.listing.specs.Meaning.{size}
 use Rattle.paths.specs.Does.{handed}
 use Rattle.paths.specs.Supergraph.{graph_of}

@@ -1,4 +1,4 @@
-use Rattle.std.proofs.Common.{◌≡◌, ℕ, ◌*◌, ◌/◌, ◌<◌, sym, ap, subst, arith}
+use Rattle.std.proofs.Common.{◌≡◌, ℕ, ◌/◌, ◌<◌, sym, ap, subst, arith}
 use Rattle.paths.specs.Tabled.{cell_at}
 use Rattle.table.specs.declared.state.Core.{Core}
 use Rattle.table.proofs.Numbers.{some_facts, point_below, rest_below}

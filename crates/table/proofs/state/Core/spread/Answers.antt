@@ -1,5 +1,4 @@
-use Rattle.std.proofs.Common.{◌≡◌, ℕ, refl, ap, ◌∙◌, arith}
-use Rattle.paths.specs.Tabled.{each}
+use Rattle.std.proofs.Common.{refl, ◌∙◌, arith}
 use Rattle.table.specs.Settling.{spread_fact}
 use Rattle.table.specs.State.{inner}
 use Rattle.table.proofs.Kept.{kept_same, kept_then, led_still}

@@ -1,4 +1,4 @@
-use Rattle.std.proofs.Common.{◌≡◌, ◌<◌, List, ◌++◌, length, drop, set, replicate, vec_items, ap, ◌∙◌, arith}
+use Rattle.std.proofs.Common.{◌<◌, List, length, set, vec_items, ap, ◌∙◌, arith}
 use Rattle.records.specs.Blank.{blank}
 use Rattle.records.specs.declared.record.Record.{Record}
 use Rattle.table.proofs.Opens.{clear_more}

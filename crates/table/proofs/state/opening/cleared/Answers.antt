@@ -1,4 +1,4 @@
-use Rattle.std.proofs.Common.{◌≡◌, ℕ, ◌≤◌, List, length, vec_items, sym, refl, ap, ◌∙◌, subst, arith}
+use Rattle.std.proofs.Common.{◌≡◌, ℕ, ◌≤◌, List, length, vec_items, sym, ap, subst, arith}
 use Rattle.listing.proofs.Parts.{parts}
 use Rattle.listing.specs.Meaning.{size}
 use Rattle.paths.proofs.Callees.{sound}

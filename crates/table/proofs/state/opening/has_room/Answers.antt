@@ -1,4 +1,4 @@
-use Rattle.std.proofs.Common.{◌≡◌, ℕ, leb, length, vec_items, ap, ◌∙◌}
+use Rattle.std.proofs.Common.{◌≡◌, leb, length, vec_items, ap, ◌∙◌}
 use Rattle.paths.specs.Does.{handed}
 use Rattle.table.proofs.Opens.{asks_size}
 use Rattle.table.proofs.state.opening.has_room.Goals as goal

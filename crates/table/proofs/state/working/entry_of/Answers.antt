@@ -1,4 +1,4 @@
-use Rattle.std.proofs.Common.{◌≡◌, ℕ, ◌<◌, ◌≤◌, true, Some, None, Option, sym, ap, inl, inr, arith}
+use Rattle.std.proofs.Common.{◌≡◌, true, Some, None, Option, sym, ap, inl, inr, arith}
 use Rattle.std.proofs.lemmas.Bool.{cases_lt}
 use Rattle.listing.specs.Lawful.{is_lawful}
 use Rattle.listing.specs.Meaning.{Meaning, flow, procs, point, entry_of}

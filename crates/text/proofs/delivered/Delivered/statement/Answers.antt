@@ -1,11 +1,11 @@
-use Rattle.std.proofs.Common.{◌≡◌, ◌+◌, ◌-◌, ◌<◌, ◌≤◌, length, get_or, drop, sym, ap, ◌∙◌, arith}
+use Rattle.std.proofs.Common.{◌+◌, length, drop, sym, ap, ◌∙◌, arith}
 use Rattle.std.proofs.lemmas.List.{length-map}
 use Rattle.std.proofs.lemmas.Option.{slice_get_past}
 use Rattle.std.proofs.lemmas.Bool.{leb-true}
 use Rattle.listing.proofs.Lists.{nth_front}
 use Rattle.listing.specs.Statements.{controlled}
 use Rattle.grammar.specs.Grammar.{then, statement}
-use Rattle.text.specs.Lines.{lines, place}
+use Rattle.text.specs.Lines.{lines}
 use Rattle.text.specs.Reading.{written, flow_of}
 use Rattle.text.proofs.Places.{place_lines, place_within}
 use Rattle.text.proofs.Written.{none_from, written_nth, written_length}

@@ -1,4 +1,4 @@
-use Rattle.std.proofs.Common.{◌≡◌, sym, ap, ◌∙◌}
+use Rattle.std.proofs.Common.{sym, ◌∙◌}
 use Rattle.text.proofs.Lawful.{meant_length}
 use Rattle.text.proofs.Meant.{yes_all}
 use Rattle.text.proofs.text.Text.length.Goals as goal

@@ -1,4 +1,4 @@
-use Rattle.std.proofs.Common.{◌≡◌, sym, ap, ◌∙◌}
+use Rattle.std.proofs.Common.{sym, ap, ◌∙◌}
 use Rattle.listing.specs.Procedures.{rets}
 use Rattle.text.proofs.Lawful.{meant_flow}
 use Rattle.text.proofs.Meant.{describes, yes_all}

@@ -1,4 +1,4 @@
-use Rattle.std.proofs.Common.{◌≡◌, Result, sym, subst}
+use Rattle.std.proofs.Common.{Result, sym, subst}
 use Rattle.listing.specs.Meaning.{totals}
 use Rattle.listing.specs.declared.counts.Counts.{Counts}
 use Rattle.draft.specs.declared.question.Refusal.{Refusal}

@@ -1,4 +1,4 @@
-use Rattle.std.proofs.Common.{◌≡◌, sym, ap, ◌∙◌}
+use Rattle.std.proofs.Common.{sym, ap, ◌∙◌}
 use Rattle.grammar.specs.Grammar.{then}
 use Rattle.text.specs.Cells.{numbered}
 use Rattle.text.specs.Reading.{counted, renumbered}
