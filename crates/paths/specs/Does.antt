@@ -209,7 +209,7 @@ abbrev pub room_for : Handed → List Rec → Bool
 room_for h memory = nat_le (h.points * h.facts * h.facts) (length memory)
 
 abbrev pub open_answer : Handed → List Rec → Answer
-open_answer h memory = cond (room_for h memory) (gives 0) (refuses 11)
+open_answer h memory = cond (nat_le (h.points * h.facts * h.facts) (length memory)) (gives 0) (refuses 11)
 
 -- a table that open has just made over H, in some memory
 pub record Newly (H : Handed) (first : Tabled) : Type 0 where

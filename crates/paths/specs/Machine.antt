@@ -7,8 +7,8 @@ use Rattle.listing.specs.declared.statement.Statement.TheVariants.{Set, Move, Ad
 use Rattle.flow.specs.Relation.{Rule}
 use Rattle.moves.specs.declared.moves.Kind.{Kind}
 use Rattle.moves.specs.declared.moves.Kind.TheVariants as kind
-use Rattle.paths.specs.declared.worklist.End.{End}
-use Rattle.paths.specs.declared.worklist.End.TheVariants.{Oldest, Newest}
+pub use Rattle.paths.specs.declared.worklist.End.{End}
+pub use Rattle.paths.specs.declared.worklist.End.TheVariants.{Oldest, Newest}
 use Rattle.paths.specs.Supergraph.{successors, Supergraph, by_step, by_past, by_call, by_return}
 use Rattle.paths.specs.Table.{TableCell, cell, Entry, Table}
 

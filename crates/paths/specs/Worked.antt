@@ -44,7 +44,7 @@ sown_c = sow_c 2 (sow_c 1 (sow_c 0 (newly_in 2 3 (replicate 18 blank))))
 
 -- its table, with every fact sown, settled
 abbrev pub table_c : Tabled
-table_c = work unset_c.graph unset_c.rule 2 3 100 Oldest sown_c
+table_c = work unset_c.graph unset_c.rule 2 3 100 Oldest (sow_c 2 (sow_c 1 (sow_c 0 (newly_in 2 3 (replicate 18 blank)))))
 
 -- its report
 abbrev pub page_c : List ℕ

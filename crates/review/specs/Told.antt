@@ -4,7 +4,7 @@ use Rattle.listing.specs.Meaning.{Meaning}
 use Rattle.draft.specs.declared.question.Refusal.{Refusal}
 use Rattle.draft.specs.Questions.{refusal_text}
 use Rattle.flow.specs.CellFacts.{facts_in, spoken_in}
-use Rattle.flow.specs.Choices.{rule_of}
+pub use Rattle.flow.specs.Choices.{rule_of}
 use Rattle.flow.specs.declared.choice.Choice.{Choice}
 use Rattle.paths.specs.Does.{handed}
 use Rattle.paths.specs.Checked.{check_no}

@@ -2,6 +2,7 @@
 use Rattle.std.specs.Prelude.{◌≡◌, ℕ, Bool, true, false, List, map, Some, None, Ok, Err, Option, Result}
 use Rattle.listing.specs.declared.numbers.Point.{Point}
 use Rattle.paths.specs.Check.{Spot, nowhere, at_spot}
+pub use Rattle.paths.specs.Does.{handed}
 use Rattle.moves.specs.declared.moves.Kind.{Kind}
 use Rattle.moves.specs.declared.moves.Kind.TheVariants as kind
 use Rattle.stack.specs.Stack.{held}
