@@ -1,7 +1,8 @@
 -- The tables of calls, step by step from the last point to the first.
-use Rattle.std.proofs.Common.{◌≡◌, ℕ, ◌+◌, ◌<◌, ◌≤◌, cond, ◌≢◌, List, length, get_or, set, replicate, Some, None, Option, sym, refl, ap, ◌∙◌, subst, ⊎_elim, arith}
+use Rattle.std.proofs.Common.{◌≡◌, ℕ, ◌+◌, ◌<◌, ◌≤◌, cond, ◌≢◌, List, length, get_or, set, replicate, Some, None, Option, sym, refl, ap, ◌∙◌, subst, ⊎_elim, arith, Bool, true, false, nat_lt, [], ◌∷◌}
 use lib.ListN.{length-replicate}
 use Rattle.std.specs.List.{slice_get}
+use Rattle.std.specs.Option.{option_map}
 use Rattle.std.proofs.lemmas.List.{at_drop_all, get_or_default, get_or_past, get_or-replicate, get_or-set_same, get_or-set_other}
 use Rattle.std.proofs.lemmas.Option.{slice_get_past}
 use Rattle.std.proofs.lemmas.Bool.{cases_eq, cases_lt, cond-true, cond-false, eq-eqb, ne_eqb, lt-ltb, le-ltb, ltb-true}
@@ -13,9 +14,9 @@ use Rattle.listing.specs.declared.control.Control.{Control}
 use Rattle.listing.specs.declared.control.Control.TheVariants.{Next, Goto, Test, Call, Ret}
 use Rattle.listing.specs.declared.numbers.Point.{Point}
 use Rattle.listing.specs.declared.numbers.Proc.{Proc}
-use Rattle.draft.specs.Index.{known, told, rank, called, Callable}
+use Rattle.draft.specs.Index.{known, told, rank, called, bounded_call, bounded_calls}
 use Rattle.draft.specs.Rules.{failing}
-use Rattle.draft.proofs.Failing.{passing}
+use Rattle.draft.proofs.Failing.{none_parts}
 
 pub known_some : (n : ℕ) → n < 1000 → known n ≡ Some (point n)
 known_some n h = cond-true _ _ _ (lt-ltb n 1000 h)
@@ -52,9 +53,32 @@ is_call (Some (Test k)) q h = let z : ◌≡◌ {A = ℕ} 0 1 = cc in absurd (om
 is_call (Some (Call p)) q h = let same : p ≡ q = cc in ap (λ r. Some (Call r)) same
 is_call (Some Ret) q h = let z : ◌≡◌ {A = ℕ} 0 1 = cc in absurd (omega arith)
 
--- where every callee exists, it is one of 60
-pub callable : (cs : List Control) (count : ℕ) → count ≤ 60 → failing (exists count) 0 cs ≡ None → Callable cs
-callable cs count few none n q h = omega (arith, ltb-true q.0 count (passing (exists count) cs 0 none n (Call q) (is_call (slice_get cs n) q h)))
+-- a call that counts is of one of 60 procedures
+few_by : (p q : Proc) (b : Bool) → nat_lt p.0 60 ≡ b → called (Some (cond b (Call p) Next)) ≡ Some q → q.0 < 60
+few_by p q true e h = let same : p ≡ q = cc in omega (arith, ltb-true p.0 60 e, ap (λ (r : Proc). r.0) same)
+few_by p q false e h = let z : ◌≡◌ {A = ℕ} 0 1 = cc in absurd (omega arith)
+
+pub few_called : (o : Option Control) (q : Proc) → called (option_map bounded_call o) ≡ Some q → q.0 < 60
+few_called None q h = let z : ◌≡◌ {A = ℕ} 0 1 = cc in absurd (omega arith)
+few_called (Some Next) q h = let z : ◌≡◌ {A = ℕ} 0 1 = cc in absurd (omega arith)
+few_called (Some (Goto k)) q h = let z : ◌≡◌ {A = ℕ} 0 1 = cc in absurd (omega arith)
+few_called (Some (Test k)) q h = let z : ◌≡◌ {A = ℕ} 0 1 = cc in absurd (omega arith)
+few_called (Some (Call p)) q h = few_by p q (nat_lt p.0 60) refl h
+few_called (Some Ret) q h = let z : ◌≡◌ {A = ℕ} 0 1 = cc in absurd (omega arith)
+
+bounded_one : (count k : ℕ) (c : Control) → count ≤ 60 → exists count k c ≡ true → bounded_call c ≡ c
+bounded_one count k Next few e = refl
+bounded_one count k (Goto j) few e = refl
+bounded_one count k (Test j) few e = refl
+bounded_one count k (Call p) few e = cond-true _ _ _ (lt-ltb p.0 60 (omega (arith, ltb-true p.0 count e)))
+bounded_one count k Ret few e = refl
+
+-- where every callee exists, every call counts
+pub bounded_same : (count k : ℕ) (cs : List Control) → count ≤ 60 → failing (exists count) k cs ≡ None → bounded_calls cs ≡ cs
+bounded_same count k [] few h = refl
+bounded_same count k (c ∷ cs) few h =
+    let p = none_parts (exists count k c) (failing (exists count) (k + 1) cs) k h in
+    ap (λ d. d ∷ bounded_calls cs) (bounded_one count k c few p.0) ∙ ap (λ ds. c ∷ ds) (bounded_same count (k + 1) cs few p.1)
 
 -- there is no call from the end on
 from_end : (cs : List Control) (n p : ℕ) → length cs ≤ n → call_from cs p n ≡ None

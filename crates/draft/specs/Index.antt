@@ -1,5 +1,5 @@
 -- When an index is that of a flow of control.
-use Rattle.std.specs.Prelude.{◌≡◌, ℕ, suc, ◌<◌, Bool, ◌&&◌, List, length, Some, None, Option, ◌==◌, nat_lt, slice_index, slice_index_or}
+use Rattle.std.specs.Prelude.{◌≡◌, ℕ, suc, ◌<◌, Bool, ◌&&◌, List, length, Some, None, Option, ◌==◌, nat_lt, slice_index, slice_index_or, cond, map}
 use Rattle.std.specs.List.{slice_get}
 use Rattle.listing.specs.declared.control.Control.{Control}
 use Rattle.listing.specs.declared.control.Control.TheVariants.{Next, Goto, Test, Call, Ret}
@@ -49,6 +49,13 @@ called (Some (Test k)) = None
 called (Some (Call p)) = Some p
 called (Some Ret) = None
 
--- every callee is one of 60 procedures
-abbrev pub Callable : List Control → Type 0
-Callable cs = (n : ℕ) (p : Proc) → called (slice_get cs n) ≡ Some p → p.0 < 60
+-- control, where a call of none of the 60 procedures that a program may have counts as no call
+abbrev pub bounded_call : Control → Control
+bounded_call Next = Next
+bounded_call (Goto k) = Goto k
+bounded_call (Test k) = Test k
+bounded_call (Call p) = cond (nat_lt p.0 60) (Call p) Next
+bounded_call Ret = Ret
+
+abbrev pub bounded_calls : List Control → List Control
+bounded_calls cs = map bounded_call cs

@@ -2,7 +2,7 @@
 use Rattle.std.proofs.Common.{◌≡◌, ℕ, true, false, not, leb, List, length, is_some, None, ap, ◌∙◌}
 use Rattle.std.specs.Option.{option_map}
 use Rattle.listing.specs.Procedures.{rets}
-use Rattle.draft.specs.Index.{Callable}
+use Rattle.draft.specs.Index.{bounded_calls}
 use Rattle.draft.specs.Rules.{crowded, missing, breach}
 use Rattle.text.specs.declared.survey.Survey.{Survey}
 use Rattle.text.specs.Reading.{flow_of, owned_of, misformed, on_line, accepted}
@@ -11,7 +11,7 @@ use Rattle.std.proofs.lemmas.Bool.{leb-true}
 use Rattle.text.proofs.Refusals.{past_four, passed}
 use Rattle.text.proofs.Lawful.{few_points}
 use Rattle.text.proofs.Accepted.{answered_yes}
-use Rattle.draft.proofs.Calls.{callable}
+use Rattle.draft.proofs.Calls.{bounded_same}
 
 module _ (t : List ℕ) (s : Survey) (f : Surveyed t s) where
   pub whole : is_some (misformed t) ≡ false
@@ -25,7 +25,7 @@ module _ (t : List ℕ) (s : Survey) (f : Surveyed t s) where
     pub all_yes : accepted t ≡ true
     all_yes = ap (λ o. not (is_some o)) (past_four t f.sized f.whole f.ranged f.short ∙ ap (option_map on_line) b)
 
-    -- and its calls are of procedures that a program may have
-    pub calls_few : Callable (flow_of t)
+    -- and every call of it counts
+    pub calls_count : bounded_calls (flow_of t) ≡ flow_of t
     unfolding crowded missing
-    calls_few = let y = answered_yes t all_yes in callable (flow_of t) (rets (flow_of t)) (leb-true _ _ (passed _ _ y.procedures)) y.callees
+    calls_count = let y = answered_yes t all_yes in bounded_same (rets (flow_of t)) 0 (flow_of t) (leb-true _ _ (passed _ _ y.procedures)) y.callees

@@ -1,6 +1,7 @@
 // Making the index of calls.
 ghost use Rattle.std.specs.Prelude.{◌≡◌, ◌<◌, length, slice_index, slice_set};
-ghost use Rattle.draft.specs.Index.{Callable, Threads, called};
+ghost use Rattle.std.specs.Option.{option_map};
+ghost use Rattle.draft.specs.Index.{Threads, bounded_call, bounded_calls, called};
 
 use crate::callers::{Callers, NO_POINT};
 use crate::interface::Draft;
@@ -8,12 +9,12 @@ use crate::procedures::{MOST_POINTS, MOST_PROCEDURES};
 use listing::control::Control;
 use listing::numbers::{Point, Proc};
 
-// The procedure that is called, if one is.
+// The procedure that is called, if one is, and it is one that a program may have.
 fn callee_of(control: Option<Control>) -> Option<Proc>
-    ensures { result ≡ called control }
+    ensures { result ≡ called (option_map bounded_call control) }
 {
     match control {
-        Some(Control::Call { callee }) => Some(callee),
+        Some(Control::Call { callee }) if (callee.0 as usize) < MOST_PROCEDURES => Some(callee),
         _ => None,
     }
 }
@@ -29,18 +30,16 @@ fn link(first: &mut [u16], next: &mut [u16], n: Point, callee: Proc)
     first[callee.0 as usize] = n.0;
 }
 
-// The index of a draft, found from its last call to its first. A call of no procedure that a program may have is passed over.
+// The index of a draft, found from its last call to its first. A call of none of the procedures that a program may have is passed over.
 pub fn index_calls<D: Draft>(draft: &D) -> Callers
-    ensures { Callable (D.flow draft.now) → Threads result (D.flow draft.now) }
+    ensures { Threads result (bounded_calls (D.flow draft.now)) }
 {
     let mut first = [NO_POINT; MOST_PROCEDURES];
     let mut next = [NO_POINT; MOST_POINTS];
     for n in (0..draft.points()).rev() {
         let n = Point(n);
         if let Some(callee) = callee_of(draft.control(n)) {
-            if (callee.0 as usize) < MOST_PROCEDURES {
-                link(&mut first, &mut next, n, callee);
-            }
+            link(&mut first, &mut next, n, callee);
         }
     }
     Callers { first, next }

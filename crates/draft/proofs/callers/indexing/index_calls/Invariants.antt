@@ -1,5 +1,5 @@
 use Rattle.std.proofs.Common.{◌≡◌, length}
-use Rattle.draft.specs.Index.{Callable}
+use Rattle.draft.specs.Index.{bounded_calls}
 use Rattle.draft.proofs.Calls.{Threaded}
 use Rattle.draft.proofs.callers.indexing.index_calls.Given as goal
 
@@ -8,4 +8,4 @@ abbrev pub invariant-loop-n : goal.invariant-loop-n
 invariant-loop-n g l =
     (length l.first ≡ 60)
     × (length l.next ≡ 1000)
-    × (Callable (g.D.Draft.flow l.draft) → Threaded (g.D.Draft.flow l.draft) l.first l.next l.n)
+    × Threaded (bounded_calls (g.D.Draft.flow l.draft)) l.first l.next l.n

@@ -1,7 +1,7 @@
-use Rattle.std.proofs.Common.{ap}
-use Rattle.draft.specs.Index.{rank}
+use Rattle.std.proofs.Common.{ap, subst}
+use Rattle.draft.specs.Index.{rank, Threads}
 use Rattle.text.proofs.Lawful.{lawful}
-use Rattle.text.proofs.Made.{whole, short, all_yes, calls_few}
+use Rattle.text.proofs.Made.{whole, short, all_yes, calls_count}
 use Rattle.text.proofs.Refusals.{accepted_not, accepted_breach}
 use Rattle.text.proofs.text.Text.accept.Goals as goal
 
@@ -26,7 +26,7 @@ invariant_of-result c =
     let f = c.in-Ok.ensures in
     let d = c.in-Ok-examine.ensures in
     let all = all_yes t c.in-Ok.survey f d.1 in
-    let calls = c.index_calls-callers.ensures (calls_few t c.in-Ok.survey f d.1) in
+    let calls = subst (Threads _) (calls_count t c.in-Ok.survey f d.1) c.index_calls-callers.ensures in
     record {
       accepted = all;
       lawful = lawful t all;
