@@ -5,25 +5,21 @@
 use flow::choice::Choice;
 use review::told::review_listing;
 use std::env;
-use std::io::Read;
-
-// One byte more than a listing may have: enough to see that it is too long.
-const LIMIT: u64 = 32769;
+use text::input::take_listing;
 
 fn main(rt: HostRuntime) -> anyhow::Result<()> {
-    let mut bytes = Vec::new(rt.alloc());
-    rt.stdin().take(LIMIT).read_to_end(&mut bytes)?;
-    let mut choice = None;
+    let bytes = take_listing(rt.alloc(), rt.stdin())?;
+    let mut args = env::args(&rt)?.skip(1).enumerate();
+    let choice = args
+        .next()
+        .and_then(|(_, word)| word.as_str().parse::<Choice>().ok());
     let mut words = Vec::new(rt.alloc());
-    for (place, word) in env::args(&rt)?.skip(1).enumerate() {
-        if place == 0 {
-            choice = Choice::named(word.as_str());
-        } else if let Ok(word) = u32::from_str_radix(word.as_str(), 16) {
-            words.push(word)?;
-        } else {
+    for (place, word) in args {
+        let Ok(word) = u32::from_str_radix(word.as_str(), 16) else {
             println!(rt; "argument {place} is no word of 32 bits in hexadecimal")?;
             return Ok(());
-        }
+        };
+        words.push(word)?;
     }
     let Some(choice) = choice else {
         println!(rt; "the first argument is the problem, unset or raw")?;

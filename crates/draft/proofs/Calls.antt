@@ -1,11 +1,10 @@
 -- The tables of calls, step by step from the last point to the first.
-use Rattle.std.proofs.Common.{◌≡◌, ℕ, ◌+◌, ◌<◌, ◌≤◌, cond, ◌≢◌, List, length, get_or, set, replicate, Some, None, Option, sym, refl, ap, ◌∙◌, subst, ⊎_elim, arith, Bool, true, false, nat_lt, [], ◌∷◌}
-use lib.ListN.{length-replicate}
+use Rattle.std.proofs.Common.{◌≡◌, ℕ, ◌+◌, ◌<◌, ◌≤◌, cond, ◌≢◌, List, length, set, replicate, Some, None, Option, sym, refl, ap, ◌∙◌, subst, ⊎_elim, arith, Bool, true, false, nat_lt, [], ◌∷◌}
 use Rattle.std.specs.List.{slice_get}
 use Rattle.std.specs.Option.{option_map}
-use Rattle.std.proofs.lemmas.List.{at_drop_all, get_or_default, get_or_past, get_or-replicate, get_or-set_same, get_or-set_other}
+use Rattle.std.proofs.lemmas.List.{at_drop_all, get_or-set_same, get_or-set_other}
 use Rattle.std.proofs.lemmas.Option.{slice_get_past}
-use Rattle.std.proofs.lemmas.Bool.{cases_eq, cases_lt, cond-true, cond-false, eq-eqb, ne_eqb, lt-ltb, le-ltb, ltb-true}
+use Rattle.std.proofs.lemmas.Bool.{cases_eq, cond-true, cond-false, eq-eqb, ne_eqb, lt-ltb, ltb-true}
 use Rattle.listing.proofs.Lists.{drop_nth, nth_none}
 use Rattle.listing.specs.Callers.{calls, first_call, call_from, call_after}
 use Rattle.listing.specs.Lawful.{exists}
@@ -14,36 +13,10 @@ use Rattle.listing.specs.declared.control.Control.{Control}
 use Rattle.listing.specs.declared.control.Control.TheVariants.{Next, Goto, Test, Call, Ret}
 use Rattle.listing.specs.declared.numbers.Point.{Point}
 use Rattle.listing.specs.declared.numbers.Proc.{Proc}
-use Rattle.draft.specs.Index.{known, told, rank, called, bounded_call, bounded_calls}
+use Rattle.draft.specs.Index.{told, called, bounded_call, bounded_calls}
 use Rattle.draft.specs.Rules.{failing}
 use Rattle.draft.proofs.Failing.{none_parts}
-
-pub known_some : (n : ℕ) → n < 1000 → known n ≡ Some (point n)
-known_some n h = cond-true _ _ _ (lt-ltb n 1000 h)
-
-pub known_none : (n : ℕ) → 1000 ≤ n → known n ≡ None
-known_none n h = cond-false _ _ _ (le-ltb n 1000 h)
-
--- an empty table tells nothing
-told_empty : (size k : ℕ) → told (replicate size 1000) k ≡ None
-told_empty size k =
-    ⊎_elim
-    (λ l. ap known (get_or-replicate size k 1000 1000 l))
-    (λ g. ap known (get_or_past (replicate size 1000) k 1000 (omega (arith, length-replicate {A = ℕ} size 1000))))
-    (cases_lt k size)
-
-told_set_same : (table : List ℕ) (k v : ℕ) → k < length table → told (set table k v) k ≡ known v
-told_set_same table k v h = ap known (get_or-set_same table k v 1000 h)
-
-told_set_other : (table : List ℕ) (i k v : ℕ) → k ≢ i → told (set table i v) k ≡ told table k
-told_set_other table i k v h = ap known (get_or-set_other table i k v 1000 h)
-
--- one rank is that of one point
-pub rank_same : (o r : Option Point) → rank o ≡ rank r → o ≡ r
-rank_same None None h = refl
-rank_same None (Some n) h = absurd (omega arith)
-rank_same (Some m) None h = absurd (omega arith)
-rank_same (Some m) (Some n) h = ap (λ k. Some (point k)) (omega arith)
+use Rattle.draft.proofs.Told.{told_empty}
 
 is_call : (o : Option Control) (q : Proc) → called o ≡ Some q → o ≡ Some (Call q)
 is_call None q h = let z : ◌≡◌ {A = ℕ} 0 1 = cc in absurd (omega arith)
@@ -120,13 +93,13 @@ module _ (cs : List Control) (n : ℕ) where
   after_quiet (Some Ret) h = refl
 
 -- the tables tell the calls from point n on
-pub record Threaded (cs : List Control) (first next : List ℕ) (n : ℕ) : Type 0 where
+pub record Threaded (cs : List Control) (first next : List (Option Point)) (n : ℕ) : Type 0 where
   pub firsts : (p : ℕ) → told first p ≡ call_from cs p n
   pub nexts : (k : ℕ) → n ≤ k → told next k ≡ call_after cs k (slice_get cs k)
   pub blank : (k : ℕ) → k < n → told next k ≡ None
 
 -- at the end they are empty
-pub threaded_none : (cs : List Control) (n : ℕ) → length cs ≤ n → Threaded cs (replicate 60 1000) (replicate 1000 1000) n
+pub threaded_none : (cs : List Control) (n : ℕ) → length cs ≤ n → Threaded cs (replicate 60 None) (replicate 1000 None) n
 threaded_none cs n h =
     record {
       firsts = λ p. told_empty 60 p ∙ sym (from_end cs n p h);
@@ -134,33 +107,27 @@ threaded_none cs n h =
       blank = λ k l. told_empty 1000 k;
     }
 
-module _ (cs : List Control) (first next : List ℕ) (n : ℕ) (later : Threaded cs first next (n + 1)) where
+module _ (cs : List Control) (first next : List (Option Point)) (n : ℕ) (later : Threaded cs first next (n + 1)) where
   -- a call is the first of its procedure, and what was the first comes next
-  pub threaded_call : (q : Proc) → called (slice_get cs n) ≡ Some q → q.0 < length first → n < length next → n < 1000 → Threaded cs (set first q.0 n) (set next n (get_or first q.0 0)) n
-  threaded_call q here room within few = record { firsts = firsts_now; nexts = nexts_now; blank = blank_now }
+  pub threaded_call : (q : Proc) → called (slice_get cs n) ≡ Some q → q.0 < length first → n < length next → Threaded cs (set first q.0 (Some (point n))) (set next n (told first q.0)) n
+  threaded_call q here room within = record { firsts = firsts_now; nexts = nexts_now; blank = blank_now }
     where
-      was : ℕ
-      was = get_or first q.0 0
-
-      was_first : known was ≡ call_from cs q.0 (n + 1)
-      was_first = ap known (get_or_default first q.0 0 1000 room) ∙ later.firsts q.0
-
-      firsts_now : (p : ℕ) → told (set first q.0 n) p ≡ call_from cs p n
+      firsts_now : (p : ℕ) → told (set first q.0 (Some (point n))) p ≡ call_from cs p n
       firsts_now p =
           ⊎_elim
-          (λ e. subst (λ (r : ℕ). told (set first q.0 n) r ≡ call_from cs r n) (sym e) (told_set_same first q.0 n room ∙ (known_some n few ∙ sym (from_same cs n q here))))
-          (λ ne. told_set_other first q.0 p n ne ∙ (later.firsts p ∙ sym (from_other cs n q here p ne)))
+          (λ e. subst (λ (r : ℕ). told (set first q.0 (Some (point n))) r ≡ call_from cs r n) (sym e) (get_or-set_same first q.0 (Some (point n)) None room ∙ sym (from_same cs n q here)))
+          (λ ne. get_or-set_other first q.0 p (Some (point n)) None ne ∙ (later.firsts p ∙ sym (from_other cs n q here p ne)))
           (cases_eq p q.0)
 
-      nexts_now : (k : ℕ) → n ≤ k → told (set next n was) k ≡ call_after cs k (slice_get cs k)
+      nexts_now : (k : ℕ) → n ≤ k → told (set next n (told first q.0)) k ≡ call_after cs k (slice_get cs k)
       nexts_now k l =
           ⊎_elim
-          (λ e. subst (λ (r : ℕ). told (set next n was) r ≡ call_after cs r (slice_get cs r)) (sym e) (told_set_same next n was within ∙ (was_first ∙ sym (after_call cs n q here))))
-          (λ ne. told_set_other next n k was ne ∙ later.nexts k (omega (arith, ne)))
+          (λ e. subst (λ (r : ℕ). told (set next n (told first q.0)) r ≡ call_after cs r (slice_get cs r)) (sym e) (get_or-set_same next n (told first q.0) None within ∙ (later.firsts q.0 ∙ sym (after_call cs n q here))))
+          (λ ne. get_or-set_other next n k (told first q.0) None ne ∙ later.nexts k (omega (arith, ne)))
           (cases_eq k n)
 
-      blank_now : (k : ℕ) → k < n → told (set next n was) k ≡ None
-      blank_now k l = let ne : k ≢ n = omega arith in told_set_other next n k was ne ∙ later.blank k (omega arith)
+      blank_now : (k : ℕ) → k < n → told (set next n (told first q.0)) k ≡ None
+      blank_now k l = let ne : k ≢ n = omega arith in get_or-set_other next n k (told first q.0) None ne ∙ later.blank k (omega arith)
 
   -- a point that has no call changes nothing
   pub threaded_quiet : called (slice_get cs n) ≡ None → Threaded cs first next n

@@ -1,9 +1,9 @@
 -- The least element that fails a test, step by step.
-use Rattle.std.proofs.Common.{◌≡◌, ℕ, zero, suc, ◌+◌, ◌<◌, ◌≤◌, Bool, true, false, cond, List, [], ◌∷◌, length, drop, Some, None, Option, sym, refl, ap, ◌∙◌, ⊎_elim, arith}
+use Rattle.std.proofs.Common.{◌≡◌, ℕ, zero, suc, ◌+◌, ◌<◌, ◌≤◌, Bool, true, false, cond, List, [], ◌∷◌, length, drop, Some, None, Option, MatchOption, sym, refl, ap, ◌∙◌, ⊎_elim, arith}
 use Rattle.std.specs.List.{slice_get}
 use Rattle.std.proofs.lemmas.List.{at_drop_all}
 use Rattle.std.proofs.lemmas.Bool.{cond-true, cond-false, cases_Bool}
-use Rattle.listing.proofs.Lists.{drop_nth}
+use Rattle.listing.proofs.Lists.{drop_nth, nth_none}
 use Rattle.draft.specs.Rules.{failing}
 
 pub none_parts : (b : Bool) (o : Option ℕ) (n : ℕ) → cond b o (Some n) ≡ None → (b ≡ true) × (o ≡ None)
@@ -21,15 +21,32 @@ module _ {A : Type 0} where
     pub failing_none : length xs ≤ n → failing test n (drop n xs) ≡ None
     failing_none h = at_drop_all (failing test n) xs n h
 
-  -- two tests that agree on every element
-  pub failing_same : (f g : ℕ → A → Bool) (xs : List A) (n : ℕ) → ((k : ℕ) (x : A) → slice_get xs k ≡ Some x → f (n + k) x ≡ g (n + k) x) → failing f n xs ≡ failing g n xs
-  failing_same f g [] n h = refl
-  failing_same f g (x ∷ xs) n h =
-      let z : n + 0 ≡ n = omega arith in
-      let here : f n x ≡ g n x = sym (ap (λ m. f m x) z) ∙ (h 0 x refl ∙ ap (λ m. g m x) z) in
-      let rest : failing f (n + 1) xs ≡ failing g (n + 1) xs
-      = failing_same f g xs (n + 1) (λ k y e. let s : n + 1 + k ≡ n + suc k = omega arith in ap (λ m. f m y) s ∙ (h (suc k) y e ∙ sym (ap (λ m. g m y) s))) in
-      ap (λ b. cond b (failing f (n + 1) xs) (Some n)) here ∙ ap (λ o. cond (g n x) o (Some n)) rest
+  module _ (test : ℕ → A → Bool) (xs : List A) where
+    -- that the element at a place passes, or that there is one that fails
+    abbrev pub Passes : ℕ → Type 0
+    Passes k = (x : A) → slice_get xs k ≡ Some x → test k x ≡ true
+
+    abbrev pub Fails : ℕ → Type 0
+    Fails k = (x : A) × (slice_get xs k ≡ Some x) × (test k x ≡ false)
+
+    stands : (k : ℕ) (o : Option A) → o ≡ slice_get xs k → k < length xs → (x : A) × (slice_get xs k ≡ Some x)
+    stands k None e l = absurd (omega (arith, nth_none xs k (sym e)))
+    stands k (Some x) e l = (x, sym e)
+
+    past : (i : ℕ) → i ≤ length xs → ((k : ℕ) → 0 ≤ k → k < i → Passes k) → failing test i (drop i xs) ≡ failing test 0 xs
+    past zero l h = refl
+    past (suc i) l h =
+        let (x, e) = stands i (slice_get xs i) refl (omega (arith, l)) in
+        let next : suc i ≡ i + 1 = omega arith in
+        ap (λ m. failing test m (drop m xs)) next ∙ sym (failing_more test xs i x e (h i (omega arith) (omega arith) x e)) ∙ past i (omega (arith, l)) (λ k low high. h k low (omega (arith, high)))
+
+    -- the first that fails, as a search over the places finds it
+    pub first_is : (m : ℕ) (r : Option ℕ) → m ≡ length xs
+        → MatchOption r ((k : ℕ) → 0 ≤ k → k < m → Passes k) (λ i. (0 ≤ i) × (i < m) × Fails i × ((k : ℕ) → 0 ≤ k → k < i → Passes k))
+        → r ≡ failing test 0 xs
+    first_is m None e h = sym (failing_none test xs m (omega (arith, e))) ∙ past m (omega (arith, e)) h
+    first_is m (Some i) e (low, high, (x, at, bad), before) =
+        sym (failing_here test xs i x at bad) ∙ past i (omega (arith, e, high)) before
 
   -- where nothing fails, every element passes
   pub passing : (test : ℕ → A → Bool) (xs : List A) (n : ℕ) → failing test n xs ≡ None → (k : ℕ) (x : A) → slice_get xs k ≡ Some x → test (n + k) x ≡ true

@@ -6,7 +6,7 @@ use Rattle.listing.specs.Statements.{is_ret}
 use Rattle.std.proofs.lemmas.List.{take_all}
 use Rattle.std.proofs.lemmas.Bool.{cond-true, cond-false, le-leb, lt-leb}
 use Rattle.draft.specs.Rules.{has_ret, crowded}
-use Rattle.listing.specs.Procedures.{bump, rets, procedure, entry, exit, exit_by, ends_in_ret}
+use Rattle.listing.specs.Procedures.{bump, rets, procedure, exit, exit_by, ends_in_ret}
 
 bump_bump : (a b : Bool) (n : ℕ) → bump a (bump b n) ≡ bump b (bump a n)
 bump_bump true true n = refl
@@ -98,17 +98,3 @@ exit_within (c ∷ cs) p h = go (is_ret c) p h (exit_within cs)
     go true zero h ih = omega arith
     go true (suc p) h ih = let r = ih p (omega arith) in omega arith
     go false p h ih = let r = ih p h in omega arith
-
-exit_step : (cs : List Control) (p : ℕ) → suc p < rets cs → exit cs p < exit cs (suc p)
-exit_step [] p h = absurd (omega arith)
-exit_step (c ∷ cs) p h = go (is_ret c) p h (exit_step cs)
-  where
-    go : (b : Bool) (p : ℕ) → suc p < bump b (rets cs) → ((q : ℕ) → suc q < rets cs → exit cs q < exit cs (suc q)) → exit_by b (exit cs) p < exit_by b (exit cs) (suc p)
-    go true zero h ih = omega arith
-    go true (suc p) h ih = let r = ih p (omega arith) in omega arith
-    go false p h ih = let r = ih p h in omega arith
-
--- a procedure begins no later than it ends
-pub entry_exit : (cs : List Control) (p : ℕ) → p < rets cs → entry cs p ≤ exit cs p
-entry_exit cs zero h = omega arith
-entry_exit cs (suc p) h = exit_step cs p h

@@ -1,3 +1,4 @@
 pub mod Questions
+pub mod Told
 pub mod Index
 pub mod Rules

@@ -1,5 +1,6 @@
 -- The questions about statements, and the first no to them.
-use Rattle.std.specs.Prelude.{ℕ, ◌+◌, ◌-◌, Bool, false, cond, List, [], ◌∷◌, length, Some, None, Ok, Err, Option, Result, nat_le}
+use Rattle.std.specs.Prelude.{◌≡◌, ℕ, ◌+◌, ◌-◌, Bool, false, cond, List, [], ◌∷◌, length, Some, None, Ok, Err, Option, Result, nat_le}
+use Rattle.std.specs.List.{slice_get}
 use Rattle.listing.specs.declared.control.Control.{Control}
 use Rattle.listing.specs.declared.numbers.Point.{Point}
 use Rattle.listing.specs.Statements.{is_ret}
@@ -14,6 +15,10 @@ use Rattle.draft.specs.declared.question.Breach.{Breach}
 abbrev pub failing : {A : Type 0} → (ℕ → A → Bool) → ℕ → List A → Option ℕ
 failing test n [] = None
 failing test n (x ∷ xs) = cond (test n x) (failing test (n + 1) xs) (Some n)
+
+-- what the calls of a test answer at each statement is what a rule says of it
+abbrev pub Judges : (Point → Control → Bool → Type 0) → List Control → (ℕ → Control → Bool) → Type 0
+Judges answers cs rule = (n : Point) (c : Control) (kept : Bool) → slice_get cs n.0 ≡ Some c → answers n c kept → kept ≡ rule n.0 c
 
 -- no at k, unless a test says yes
 abbrev pub unless : Bool → ℕ → Option ℕ

@@ -4,12 +4,11 @@ mod lookups;
 
 pub use self::indexing::index_calls;
 use crate::procedures::{MOST_POINTS, MOST_PROCEDURES};
+use listing::numbers::Point;
 
-// Stands where there is no call: no point has this number.
-const NO_POINT: u16 = MOST_POINTS as u16;
-
+// Arrays of fixed length and calls by their points: a reading allocates nothing.
 #[derive(Clone, Copy)]
 pub struct Callers {
-    first: [u16; MOST_PROCEDURES],
-    next: [u16; MOST_POINTS],
+    first: [Option<Point>; MOST_PROCEDURES],
+    next: [Option<Point>; MOST_POINTS],
 }

@@ -7,7 +7,7 @@ ghost use Rattle.draft.specs.Rules.{breach, unended, asked};
 use crate::interface::Draft;
 use crate::procedures::{Procedures, index, is_ret};
 use crate::question::{Breach, Question};
-use crate::rules::{CalleesExist, JumpsStay, OwnCells, first_breach};
+use crate::rules::{callee_exists, first_breach, jump_stays};
 use listing::numbers::Point;
 
 // The last point, where its statement is no `ret`.
@@ -39,31 +39,21 @@ pub fn examine<D: Draft>(draft: &D) -> Result<Procedures, Breach>
         (λ b. breach (D.flow draft.now) (D.owned draft.now) ≡ Some b) }
 {
     answer(Question::End, no_last_ret(draft))?;
-    let procedures = match index(draft) {
-        Ok(found) => found,
-        Err(point) => return Err(Breach {
-            question: Question::Procedures,
-            point,
-        }),
-    };
-    answer(Question::Cells, first_breach(draft, &OwnCells { draft }))?;
+    let procedures = index(draft).map_err(|point| Breach {
+        question: Question::Procedures,
+        point,
+    })?;
+    answer(
+        Question::Cells,
+        first_breach(draft, |n, _| draft.owns_cells(n)),
+    )?;
     answer(
         Question::Jumps,
-        first_breach(
-            draft,
-            &JumpsStay {
-                procedures: &procedures,
-            },
-        ),
+        first_breach(draft, |n, control| jump_stays(&procedures, n, control)),
     )?;
     answer(
         Question::Callees,
-        first_breach(
-            draft,
-            &CalleesExist {
-                count: procedures.count(),
-            },
-        ),
+        first_breach(draft, |n, control| callee_exists(&procedures, n, control)),
     )?;
     Ok(procedures)
 }

@@ -3,7 +3,7 @@ ghost use Rattle.std.specs.Prelude.{◌≡◌, ℕ, Bool, true, List, length, na
 ghost use Rattle.std.specs.List.{slice_get};
 ghost use Rattle.listing.specs.declared.control.Control.{Control};
 
-use listing::control::Control as Flow;
+use listing::control::Control;
 use listing::numbers::Point;
 
 // A delivered program of at most 1,000 statements, each of which has its form.
@@ -19,7 +19,7 @@ pub trait Draft {
     fn points(&self) -> u16
         ensures { result ≡ length (flow self.now) };
 
-    fn control(&self, n: Point) -> Option<Flow>
+    fn control(&self, n: Point) -> Option<Control>
         ensures { result ≡ slice_get (flow self.now) n.0 };
 
     fn owns_cells(&self, n: Point) -> bool

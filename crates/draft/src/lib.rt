@@ -7,3 +7,4 @@ pub mod interface;
 pub mod procedures;
 pub mod question;
 pub mod rules;
+mod tables;

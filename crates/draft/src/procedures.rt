@@ -1,5 +1,9 @@
 // An index of procedures: that of each point, and the exit of each.
-ghost use Rattle.std.specs.Prelude.{ℕ, ◌<◌, ◌≤◌, slice_index};
+ghost use Rattle.std.specs.Prelude.{ℕ, ◌<◌, ◌≤◌};
+ghost use Rattle.std.specs.Option.{ForSome};
+ghost use Rattle.draft.specs.Told.{told};
+
+use listing::numbers::{Point, Proc};
 
 mod indexing;
 mod lookups;
@@ -10,13 +14,12 @@ pub const MOST_POINTS: usize = 1000;
 
 pub const MOST_PROCEDURES: usize = 60;
 
+// Arrays of fixed length, with the number of procedures beside them: a reading allocates nothing.
 #[derive(Clone, Copy)]
 pub struct Procedures {
-    homes: [u16; MOST_POINTS],
-    exits: [u16; MOST_PROCEDURES],
-    points: u16,
+    homes: [Option<Proc>; MOST_POINTS],
+    exits: [Option<Point>; MOST_PROCEDURES],
     count: u16,
-    ghost short: { points ≤ 1000 },
     ghost few: { count ≤ 60 },
-    ghost inside: { (p : ℕ) → p < count → slice_index exits p < points },
+    ghost inside: { (p : ℕ) → ForSome (told exits p) (λ n. n.0 < 1000) },
 }

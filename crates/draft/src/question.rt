@@ -57,9 +57,7 @@ impl fmt::Display for Refusal {
     ghost output = { λ r. Some (refusal_text r) };
 
     fn fmt<W: fmt::Write>(&self, f: &mut fmt::Formatter<W>) -> fmt::Result {
-        let number = self.question.number();
-        let place = self.place;
-        write!(f, "refused {number} at {place}")
+        write!(f, "refused {} at {}", self.question.number(), self.place)
     }
 }
 

@@ -1,14 +1,14 @@
 -- The default starts by number.
-use Rattle.std.proofs.Common.{◌≡◌, ℕ, zero, suc, ◌+◌, ◌<◌, ◌≤◌, Some, None, refl, ap, ◌∙◌, arith}
+use Rattle.std.proofs.Common.{◌≡◌, ℕ, zero, suc, ◌+◌, nat_lt, arith}
+use Rattle.std.proofs.lemmas.Grind.{common_steps}
+use Rattle.std.specs.Bool.{then_some}
 use Rattle.std.specs.List.{slice_get}
 use Rattle.flow.specs.CellFacts.{from_first, from_each}
 
-pub each_nth : (d k i : ℕ) → i < k → slice_get (from_each d k) i ≡ Some (from_first (d + i))
-each_nth d zero i l = absurd (omega arith)
-each_nth d (suc k) zero l = let z : d ≡ d + 0 = omega arith in ap (λ e. Some (from_first e)) z
-each_nth d (suc k) (suc i) l = let z : d + 1 + i ≡ d + suc i = omega arith in each_nth (d + 1) k i (omega arith) ∙ ap (λ e. Some (from_first e)) z
+from : (d k i : ℕ) → slice_get (from_each d k) i ≡ then_some (nat_lt i k) (from_first (d + i))
+from d zero i = grind (arith, common_steps)
+from d (suc k) zero = grind (arith, common_steps)
+from d (suc k) (suc i) = let h = from (d + 1) k i in grind (arith, common_steps)
 
-pub each_past : (d k i : ℕ) → k ≤ i → slice_get (from_each d k) i ≡ None
-each_past d zero i l = refl
-each_past d (suc k) zero l = absurd (omega arith)
-each_past d (suc k) (suc i) l = each_past (d + 1) k i (omega arith)
+pub start_at : (k i : ℕ) → slice_get (from_each 0 k) i ≡ then_some (nat_lt i k) (from_first i)
+start_at k i = let h = from 0 k i in grind (arith, common_steps)

@@ -2,7 +2,7 @@
 use Rattle.std.specs.Prelude.{ℕ, zero, suc, ◌+◌, ◌-◌, cond, List, [], ◌∷◌, Some, None, Option, ◌==◌, nat_lt}
 use Rattle.listing.specs.declared.numbers.Cell.{Cell}
 use Rattle.listing.specs.Meaning.{proc}
-use Rattle.flow.specs.declared.cells.CellCounts.{CellCounts}
+use Rattle.listing.specs.declared.cells.CellCounts.{CellCounts}
 use Rattle.flow.specs.declared.interface.Start.{Start}
 
 -- zero, and one fact for each of g globals and l locals
@@ -11,6 +11,10 @@ facts_in g l = g + l + 1
 
 abbrev pub facts_of : CellCounts → ℕ
 facts_of c = facts_in c.globals c.locals
+
+-- the cell that a fact speaks of, however many there are
+abbrev pub spoken_of : ℕ → Option Cell
+spoken_of d = cond (d == 0) None (Some (record { 0 = d - 1 }))
 
 -- the cell that a fact speaks of; zero speaks of none
 abbrev pub spoken_in : ℕ → ℕ → ℕ → Option Cell

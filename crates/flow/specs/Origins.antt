@@ -1,8 +1,11 @@
 -- Facts of cells: fact c + 1 speaks of cell c.
 use Rattle.std.specs.Prelude.{ℕ, ◌+◌, Bool, false, cond, not, ◌&&◌, ◌||◌, Some, None, Option, ◌==◌, nat_le, nat_lt}
+use Rattle.listing.specs.declared.cells.CellCounts.{CellCounts}
 use Rattle.listing.specs.declared.numbers.Cell.{Cell}
 use Rattle.listing.specs.declared.statement.Statement.{Statement}
 use Rattle.listing.specs.declared.statement.Statement.TheVariants.{Set, Move, Add, Read, Send, Goto, Test, Call, Ret, Trim}
+use Rattle.flow.specs.CellFacts.{facts_in}
+use Rattle.flow.specs.Relation.{Rule, statement_of, guarded}
 use Rattle.flow.specs.declared.edge.Edge.{Edge}
 use Rattle.flow.specs.declared.edge.Edge.TheVariants as edge
 use Rattle.flow.specs.declared.origin.Origin.{Origin}
@@ -63,3 +66,10 @@ over g write local (edge.Step n s) d e = carried write d e
 over g write local (edge.Past n s) d e = passed g s d e
 over g write local (edge.Call n s) d e = entered g local s d e
 over g write local (edge.Return n s v) d e = returned g s v d e
+
+-- a relation between the facts of g globals and l locals, by what a statement writes and the origin of a callee's locals but the first
+abbrev pub ruled_in : ℕ → ℕ → (Statement Cell → Option Write) → Origin → Rule
+ruled_in g l write local = guarded (facts_in g l) (λ x. over g (write (statement_of x)) local x)
+
+abbrev pub ruled : CellCounts → (Statement Cell → Option Write) → Origin → Rule
+ruled c write local = ruled_in c.globals c.locals write local

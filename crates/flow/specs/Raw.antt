@@ -3,12 +3,11 @@ use Rattle.std.specs.Prelude.{ℕ, Some, None, Option}
 use Rattle.listing.specs.declared.numbers.Cell.{Cell}
 use Rattle.listing.specs.declared.statement.Statement.{Statement}
 use Rattle.listing.specs.declared.statement.Statement.TheVariants as statement
-use Rattle.flow.specs.declared.cells.CellCounts.{CellCounts}
+use Rattle.listing.specs.declared.cells.CellCounts.{CellCounts}
 use Rattle.flow.specs.declared.origin.Origin.TheVariants.{Nothing, Zero, One, Two}
 use Rattle.flow.specs.declared.origin.Write.{Write}
-use Rattle.flow.specs.CellFacts.{facts_in}
-use Rattle.flow.specs.Origins.{over}
-use Rattle.flow.specs.Relation.{Rule, statement_of, guarded}
+use Rattle.flow.specs.Origins.{ruled_in}
+use Rattle.flow.specs.Relation.{Rule}
 
 -- the cell that a statement writes, and where its fact comes from
 abbrev pub raw_write : Statement Cell → Option Write
@@ -25,7 +24,7 @@ raw_write (statement.Trim d s) = Some (record { to = d; from = Nothing })
 
 -- of the callee's locals, all but the first follow from nothing
 abbrev pub raw_in : ℕ → ℕ → Rule
-raw_in g l = guarded (facts_in g l) (λ x. over g (raw_write (statement_of x)) Nothing x)
+raw_in g l = ruled_in g l raw_write Nothing
 
 abbrev pub raw : CellCounts → Rule
 raw c = raw_in c.globals c.locals

@@ -1,14 +1,148 @@
-// How many globals and locals a problem about cells speaks of.
-ghost use Rattle.std.specs.Prelude.{◌≤◌};
+// Problems about cells: a fact for each cell, beside zero.
+ghost use Rattle.std.specs.Prelude.{◌≡◌, ℕ, ◌+◌, nat_lt};
+ghost use Rattle.std.specs.List.{slice_get};
+ghost use Rattle.flow.specs.CellFacts.{facts_of, spoken, from_each};
+ghost use Rattle.flow.specs.Guarded.{guarded_within, guarded_zero};
+ghost use Rattle.flow.specs.Origins.{comes, over, ruled};
+ghost use Rattle.flow.specs.Relation.{statement_of};
+ghost use Rattle.std.proofs.Common.{arith, rules};
 
-mod making;
+use crate::edge::Edge;
+use crate::interface::{Problem, Start};
+use crate::origin::{Origin, cell_of};
+use crate::rule::CellRule;
+pub use listing::cells::CellCounts;
+use listing::numbers::{Cell, Fact, Proc};
+use listing::statement::Statement;
 
-// 0 to 31 globals, and 1 to 32 locals.
+// A problem about cells, under a rule: fact c + 1 says of cell c what the rule is about.
 #[derive(Clone, Copy)]
-pub struct CellCounts {
-    globals: u8,
-    locals: u8,
-    ghost few_globals: { globals ≤ 31 },
-    ghost some_locals: { 1 ≤ locals },
-    ghost few_locals: { locals ≤ 32 },
+pub struct CellProblem<R> {
+    pub counts: CellCounts,
+    pub rule: R,
+}
+
+// Procedure 0 with each of the first facts, by number.
+#[tactic(auto, using(crate::proofs::Starts::start_at))]
+fn start_of(count: u8, i: u8) -> Option<Start>
+    ensures { result ≡ slice_get (from_each 0 count) i }
+{
+    let start = Start {
+        procedure: Proc(0),
+        fact: Fact(i),
+    };
+    (i < count).then_some(start)
+}
+
+impl<R: CellRule> CellProblem<R> {
+    fn is_global(&self, cell: Cell) -> bool
+        ensures { result ≡ nat_lt cell.0 self.now.counts.globals }
+    {
+        cell.0 < self.counts.globals()
+    }
+
+    // Where the fact of a cell comes from over an edge.
+    fn origin(&self, edge: Edge, cell: Cell) -> Origin
+        ensures { (d : ℕ) → comes result d ≡ over self.now.counts.globals (R.writes (statement_of edge)) R.other_locals edge d (cell.0 + 1) }
+    {
+        match edge {
+            // the written cell's from what is written, every other cell's from itself
+            Edge::Step { statement, .. } => match self.rule.write(statement) {
+                Some(write) if write.to == cell => write.from,
+                _ => Origin::One(cell),
+            },
+            // past a call: that of a local other than the call's own from itself
+            Edge::Past {
+                statement: Statement::Call { to, .. },
+                ..
+            } => {
+                if cell == to || self.is_global(cell) {
+                    Origin::Nothing
+                } else {
+                    Origin::One(cell)
+                }
+            }
+            // into the callee: a global's from itself, local 0's from the argument's, another local's as the rule says
+            Edge::Call {
+                statement: Statement::Call { argument, .. },
+                ..
+            } => {
+                if self.is_global(cell) {
+                    Origin::One(cell)
+                } else if cell == Cell(self.counts.globals()) {
+                    Origin::One(argument)
+                } else {
+                    self.rule.other_locals()
+                }
+            }
+            // back from the callee: the call's own cell's from the returned cell's, another global's from itself
+            Edge::Return {
+                statement: Statement::Call { to, .. },
+                result,
+                ..
+            } => {
+                if cell == to {
+                    Origin::One(result)
+                } else if self.is_global(cell) {
+                    Origin::One(cell)
+                } else {
+                    Origin::Nothing
+                }
+            }
+            _ => Origin::Nothing,
+        }
+    }
+}
+
+impl<R: CellRule> Problem for CellProblem<R> {
+    type Item = Cell;
+
+    const NUMBER: u8 = R::NUMBER;
+
+    ghost NUMBER = { R.NUMBER };
+
+    ghost count = { λ q. facts_of q.counts };
+
+    ghost relation = { λ q. ruled q.counts R.writes R.other_locals };
+
+    ghost stands = { λ q. spoken q.counts };
+
+    ghost starts = { λ q. from_each 0 (R.starting_facts (facts_of q.counts)) };
+
+    ghost zeroed = { Unit {0} };
+
+    ghost few = { Prim.search rules };
+
+    ghost within = { λ q. guarded_within _ _ };
+
+    ghost zero = { λ j q. guarded_zero (facts_of q.counts) (λ x. over q.counts.globals (R.writes (statement_of x)) R.other_locals x) (omega arith) };
+
+    fn own_number(&self) -> u8 {
+        R::NUMBER
+    }
+
+    // F = G + L + 1
+    fn facts(&self) -> u8 {
+        self.counts.globals() + self.counts.locals() + 1
+    }
+
+    fn item(&self, d: Fact) -> Option<Cell> {
+        if d.0 < self.facts() { cell_of(d) } else { None }
+    }
+
+    fn start(&self, i: u8) -> Option<Start> {
+        start_of(self.rule.starting_facts(self.facts()), i)
+    }
+
+    fn follows(&self, edge: Edge, d: Fact, e: Fact) -> bool {
+        let facts = self.facts();
+        if !edge.exists() || d.0 >= facts || e.0 >= facts {
+            return false;
+        }
+        let origin = match cell_of(e) {
+            None => Origin::Zero,
+            Some(cell) => self.origin(edge, cell),
+        };
+        origin.gives(d)
+    }
 }

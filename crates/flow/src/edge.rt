@@ -8,6 +8,8 @@ use listing::statement::Statement;
 
 // A move, with the point that it leaves and the statement there; for a return, those of the call, and the cell that the
 // callee returns.
+// A struct of a point, a statement and a kind is no plainer: the definitions of paths go by cases over these four, and only a
+// return has a result.
 #[derive(Clone, Copy)]
 pub enum Edge {
     // to a successor of a statement that is neither `call` nor `ret`
@@ -38,17 +40,13 @@ impl Edge {
     pub fn exists(&self) -> bool
         ensures { result ≡ has self.now }
     {
-        match *self {
-            Edge::Step { statement, .. } => match statement.control() {
-                Control::Call { .. } | Control::Ret => false,
-                _ => true,
-            },
+        match self {
+            Edge::Step { statement, .. } => {
+                !matches!(statement.control(), Control::Call { .. } | Control::Ret)
+            }
             Edge::Past { statement, .. }
             | Edge::Call { statement, .. }
-            | Edge::Return { statement, .. } => match statement.control() {
-                Control::Call { .. } => true,
-                _ => false,
-            },
+            | Edge::Return { statement, .. } => matches!(statement.control(), Control::Call { .. }),
         }
     }
 
@@ -59,8 +57,8 @@ impl Edge {
         match *self {
             Edge::Step { statement, .. }
             | Edge::Past { statement, .. }
-            | Edge::Call { statement, .. } => statement,
-            Edge::Return { statement, .. } => statement,
+            | Edge::Call { statement, .. }
+            | Edge::Return { statement, .. } => statement,
         }
     }
 }

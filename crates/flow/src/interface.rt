@@ -22,7 +22,7 @@ pub trait Problem {
     // the problem's own number
     const NUMBER: u8;
 
-    ghost numbered: { ℕ };
+    ghost NUMBER: { ℕ };
 
     ghost count: { Self → ℕ };
 
@@ -37,7 +37,7 @@ pub trait Problem {
 
     // The problem's own number.
     fn own_number(&self) -> u8
-        ensures { result ≡ numbered };
+        ensures { result ≡ NUMBER };
 
     // F
     fn facts(&self) -> u8

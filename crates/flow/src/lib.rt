@@ -6,6 +6,7 @@ pub mod choice;
 pub mod edge;
 pub mod fault;
 pub mod interface;
-mod origin;
+pub mod origin;
 pub mod raw;
+pub mod rule;
 pub mod unset;

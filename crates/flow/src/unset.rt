@@ -1,88 +1,43 @@
 // Problem 1: which cells may be unset.
-ghost use Rattle.std.specs.Prelude.{◌≡◌};
-ghost use Rattle.flow.specs.CellFacts.{facts_of, spoken, from_each};
-ghost use Rattle.flow.specs.Unset.{unset_write, unset};
-ghost use Rattle.flow.specs.Relation.{statement_of};
-ghost use Rattle.flow.specs.Origins.{over};
+ghost use Rattle.flow.specs.Unset.{unset_write};
 ghost use Rattle.flow.specs.declared.origin.Origin.TheVariants.{Zero};
-ghost use Rattle.flow.specs.Guarded.{guarded_within, guarded_zero};
-ghost use Rattle.std.proofs.Common.{arith, rules};
 
-use crate::cells::CellCounts;
-use crate::edge::Edge;
-use crate::interface::{Problem, Start};
 use crate::origin::{Origin, Write};
-use listing::numbers::{Cell, Fact};
+use crate::rule::CellRule;
+use listing::numbers::Cell;
 use listing::statement::Statement;
 
 // Fact c + 1 says that cell c may be unset.
 #[derive(Clone, Copy)]
-pub struct Unset {
-    pub counts: CellCounts,
-}
+pub struct Unset;
 
-fn write(statement: Statement<Cell>) -> Option<Write>
-    ensures { result ≡ unset_write statement }
-{
-    match statement {
-        Statement::Set { to } | Statement::Read { to } => Some(Write {
-            to,
-            from: Origin::Nothing,
-        }),
-        Statement::Move { to, from } | Statement::Trim { to, from } => Some(Write {
-            to,
-            from: Origin::One(from),
-        }),
-        Statement::Add { to, left, right } => Some(Write {
-            to,
-            from: Origin::Two(left, right),
-        }),
-        _ => None,
-    }
-}
-
-impl Problem for Unset {
-    type Item = Cell;
-
+impl CellRule for Unset {
     const NUMBER: u8 = 1;
 
-    ghost numbered = { 1 };
+    ghost NUMBER = { 1 };
 
-    ghost count = { λ q. facts_of q.counts };
+    ghost writes = { unset_write };
 
-    ghost relation = { λ q. unset q.counts };
+    ghost other_locals = { Zero };
 
-    ghost stands = { λ q. spoken q.counts };
+    ghost starting_facts = { λ facts. facts };
 
-    ghost starts = { λ q. from_each 0 (facts_of q.counts) };
-
-    ghost zeroed = { Unit {0} };
-
-    ghost few = { Prim.search rules };
-
-    ghost within = { λ q. guarded_within (facts_of q.counts) (λ x. over q.counts.globals (unset_write (statement_of x)) Zero x) };
-
-    ghost zero = { λ j q. guarded_zero (facts_of q.counts) (λ x. over q.counts.globals (unset_write (statement_of x)) Zero x) (omega arith) };
-
-    fn own_number(&self) -> u8 {
-        Self::NUMBER
+    fn write(&self, statement: Statement<Cell>) -> Option<Write> {
+        let (to, from) = match statement {
+            Statement::Set { to } | Statement::Read { to } => (to, Origin::Nothing),
+            Statement::Move { to, from } | Statement::Trim { to, from } => (to, Origin::One(from)),
+            Statement::Add { to, left, right } => (to, Origin::Two(left, right)),
+            _ => return None,
+        };
+        Some(Write { to, from })
     }
 
-    fn facts(&self) -> u8 {
-        self.counts.facts()
+    fn other_locals(&self) -> Origin {
+        Origin::Zero
     }
 
-    fn item(&self, d: Fact) -> Option<Cell> {
-        self.counts.cell(d)
-    }
-
-    // Procedure 0 with every fact.
-    fn start(&self, i: u8) -> Option<Start> {
-        self.counts.each_start(i)
-    }
-
-    fn follows(&self, edge: Edge, d: Fact, e: Fact) -> bool {
-        self.counts
-            .follows(write(edge.statement()), Origin::Zero, edge, d, e)
+    // Every fact.
+    fn starting_facts(&self, facts: u8) -> u8 {
+        facts
     }
 }

@@ -1,33 +1,42 @@
 -- The words of a line, cut at its first space.
-use Rattle.std.proofs.Common.{◌≡◌, ℕ, zero, suc, ◌+◌, ◌-◌, ◌*◌, ◌<◌, true, false, cond, eqb, List, [], ◌∷◌, length, get_or, take, drop, None, sym, refl, ap, ◌∙◌, arith}
+use Rattle.std.proofs.Common.{◌≡◌, ℕ, ◌+◌, ◌-◌, ◌<◌, ◌==◌, Bool, true, false, cond, eqb, List, [], ◌∷◌, length, get_or, take, drop, Some, None, sym, refl, ap, ◌∙◌, arith, not, ◌≤◌, nat_lt}
+use Rattle.std.specs.List.{position, position_or_len, slice_split, onto_first}
 use Rattle.std.specs.Option.{option_map}
-use Rattle.std.specs.Char.{is_ascii_digit}
-use Rattle.std.proofs.lemmas.List.{drop_more, take_rest}
-use Rattle.std.proofs.lemmas.Bool.{cond-true, cond-false, eq-eqb, ne_eqb}
-use Rattle.grammar.specs.Words.{longer, words, value_on, short, number, name}
+use Rattle.std.proofs.lemmas.List.{take_rest}
+use Rattle.std.proofs.lemmas.List.Splits.{slice_split_first, slice_split_none}
+use Rattle.std.proofs.lemmas.Bool.{leb-true, not-true}
+use Rattle.std.proofs.lemmas.Bool.Decides.{nat_tests}
+use Rattle.std.proofs.lemmas.List.Sums.{prefix_len_passes}
+use Rattle.grammar.specs.Words.{longer, words, number, name}
+use Rattle.grammar.proofs.Prints.{given_some}
 use Rattle.grammar.specs.declared.name.Name.TheVariants.{Global, Local}
 
-pub words_cut : (bs : List ℕ) (n : ℕ) → ((k : ℕ) → k < n → get_or bs k 0 ≡ 32 → ⊥) → n < length bs → get_or bs n 0 ≡ 32 → words bs ≡ take n bs ∷ words (drop (suc n) bs)
-words_cut [] n before l e = absurd (omega arith)
-words_cut (b ∷ bs) zero before l e = cond-true _ _ _ (eq-eqb b 32 e)
-words_cut (b ∷ bs) (suc n) before l e =
-    cond-false _ _ _ (ne_eqb b 32 (before 0 (omega arith)))
-    ∙ ap (longer b) (words_cut bs n (λ k h. before (suc k) (omega arith)) (omega arith) e)
+abbrev gap : ℕ → Bool
+gap b = b == 32
 
-pub words_last : (bs : List ℕ) → ((k : ℕ) → k < length bs → get_or bs k 0 ≡ 32 → ⊥) → words bs ≡ bs ∷ []
-words_last [] before = refl
-words_last (b ∷ bs) before =
-    cond-false _ _ _ (ne_eqb b 32 (before 0 (omega arith)))
-    ∙ ap (longer b) (words_last bs (λ k h. before (suc k) (omega arith)))
+onto : (b : ℕ) (ps : List (List ℕ)) → longer b ps ≡ onto_first b ps
+onto b [] = refl
+onto b (p ∷ ps) = refl
 
-pub value_more : (w : List ℕ) (n i : ℕ) → i < length w → true ≡ is_ascii_digit (get_or w i 0) → value_on n (drop i w) ≡ value_on (10 * n + (get_or w i 0 - 48)) (drop (i + 1) w)
-value_more w n i l e = ap (value_on n) (drop_more w i 0 l) ∙ cond-true _ _ _ (sym e)
+split_words : (bs : List ℕ) → words bs ≡ slice_split gap bs
+split_words [] = refl
+split_words (b ∷ bs) = ap (λ ws. cond (eqb b 32) ([] ∷ ws) (longer b ws)) (split_words bs) ∙ ap (λ ws. cond (eqb b 32) ([] ∷ slice_split gap bs) ws) (onto b (slice_split gap bs))
 
-pub value_none : (w : List ℕ) (n i : ℕ) → i < length w → false ≡ is_ascii_digit (get_or w i 0) → value_on n (drop i w) ≡ None
-value_none w n i l e = ap (value_on n) (drop_more w i 0 l) ∙ cond-false _ _ _ (sym e)
+pub words_cut : (bs : List ℕ) (n : ℕ) → position gap bs ≡ Some n → words bs ≡ take n bs ∷ words (drop (n + 1) bs)
+words_cut bs n h =
+    let p = given_some (nat_lt (position_or_len gap bs) (length bs)) (Some (position_or_len gap bs)) n h in
+    let e : position_or_len gap bs ≡ n = some_same p.1 in
+    split_words bs
+    ∙ (slice_split_first gap bs 0 (leb-true _ _ p.0)
+    ∙ (ap (λ k. take k bs ∷ slice_split gap (drop (k + 1) bs)) e ∙ ap (λ ws. take n bs ∷ ws) (sym (split_words (drop (n + 1) bs)))))
+  where
+    some_same : {x y : ℕ} → Some x ≡ Some y → x ≡ y
+    some_same z = cc
 
-pub number_none : (w : List ℕ) → value_on 0 w ≡ None → None ≡ number w
-number_none w e = elim (short w) as (λ s. None ≡ cond s (value_on 0 w) None) [ true ↦ sym e | false ↦ refl ]
+pub words_last : (bs : List ℕ) → position gap bs ≡ None → words bs ≡ bs ∷ []
+words_last bs h =
+    let none : length bs ≤ position_or_len gap bs = grind (arith, nat_tests) in
+    split_words bs ∙ slice_split_none gap bs (λ k d l. not-true (gap (get_or bs k d)) (prefix_len_passes (λ b. not (gap b)) bs k d (omega arith)))
 
 -- a cell by its letter and the part after it, as a slice pattern has it
 pub name_at : (w : List ℕ) → 0 < length w → name w ≡ cond (eqb (get_or w 0 0) 103) (option_map Global (number (take (length w - 1) (drop 1 w)))) (cond (eqb (get_or w 0 0) 108) (option_map Local (number (take (length w - 1) (drop 1 w)))) None)

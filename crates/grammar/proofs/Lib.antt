@@ -1,3 +1,4 @@
 pub mod Cuts
+pub mod Numerals
 pub mod Prints
 pub mod Spelt

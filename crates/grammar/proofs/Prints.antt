@@ -1,9 +1,8 @@
 -- A number, a name and operands are read just where they are written so.
-use Rattle.std.proofs.Common.{◌≡◌, ℕ, ◌+◌, ◌-◌, ◌*◌, ◌<◌, ◌≤◌, Bool, true, false, cond, ◌&&◌, eqb, List, [], ◌∷◌, length, get_or, Some, None, decimal, Option, sym, refl, ap, ◌∙◌, subst, ⊎_elim, arith, rules}
+use Rattle.std.proofs.Common.{◌≡◌, ℕ, ◌<◌, ◌≤◌, Bool, true, false, cond, eqb, List, [], ◌∷◌, length, get_or, Some, None, decimal, Option, sym, refl, ap, ◌∙◌, subst, ⊎_elim, arith}
 use Rattle.std.specs.Option.{option_map}
-use Rattle.std.specs.Char.{is_ascii_digit}
 use Rattle.std.specs.Str.{all_ascii_digits}
-use Rattle.std.proofs.lemmas.Str.Parse.{IsNumeralModel, numerals_by_fold, digits_value_short}
+use Rattle.std.proofs.lemmas.Str.Parse.{digits_value_short}
 use Rattle.std.proofs.lemmas.Fmt.{decimal-digits_value, digits_decimal, digits_value-decimal, length-decimal-le, decimal_nonempty, first_decimal, decimal_digit}
 use Rattle.std.proofs.lemmas.Bool.{cond-true, cond-false, cases_Bool, cases_lt, eqb-true}
 use Rattle.std.proofs.lemmas.Bool.Decides.{nat_tests}
@@ -12,19 +11,7 @@ use Rattle.grammar.specs.declared.name.Name.TheVariants.{Global, Local}
 use Rattle.grammar.specs.Words.{value_on, short, number, name}
 use Rattle.grammar.specs.Grammar.{pair, last, next, one, two, three, target, branch, called, counts}
 use Rattle.grammar.specs.Spelling.{name_spelt, SmallName}
-
-abbrev pub read_on : ℕ → List ℕ → ℕ
-read_on n [] = n
-read_on n (c ∷ cs) = read_on (10 * n + (c - 48)) cs
-
-pub own : IsNumeralModel (λ ds. all_ascii_digits ds ≡ true) (read_on 0)
-own = numerals_by_fold _ (search rules) read_on (search rules)
-
-value_is : (m : ℕ) (w : List ℕ) → value_on m w ≡ cond (all_ascii_digits w) (Some (read_on m w)) None
-value_is m [] = refl
-value_is m (c ∷ cs) =
-    elim (is_ascii_digit c) as (λ b. cond b (value_on (10 * m + (c - 48)) cs) None ≡ cond (b && all_ascii_digits cs) (Some (read_on (10 * m + (c - 48)) cs)) None)
-    [ true ↦ value_is (10 * m + (c - 48)) cs | false ↦ refl ]
+use Rattle.grammar.proofs.Numerals.{read_on, own, value_is}
 
 -- what a `cond` with `None` gave
 pub given_some : {A : Type 0} (b : Bool) (o : Option A) (a : A) → cond b o None ≡ Some a → (b ≡ true) × (o ≡ Some a)

@@ -19,7 +19,8 @@ use Rattle.grammar.specs.Words.{longer, words}
 use Rattle.grammar.specs.Grammar.{body, then, named, operands, spelled, cells, counts, statement, header}
 use Rattle.grammar.specs.Spelling.{spaced, line_of, name_spelt, words_of, header_words, SmallName, Small, SmallHeader, ReadAs, StatementSpelt, HeaderSpelt}
 use Rattle.std.proofs.lemmas.List.{take_all, take_more, take_at, get_or_at, length_push}
-use Rattle.grammar.proofs.Prints.{own, given_some, mapped_some, SpellsAll, one_spells, two_spells, three_spells, target_spells, branch_spells, called_spells, counts_spells}
+use Rattle.grammar.proofs.Numerals.{own}
+use Rattle.grammar.proofs.Prints.{given_some, mapped_some, SpellsAll, one_spells, two_spells, three_spells, target_spells, branch_spells, called_spells, counts_spells}
 
 abbrev name_of : Op → List ℕ
 name_of op.Set = codes "set"

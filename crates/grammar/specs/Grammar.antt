@@ -34,6 +34,10 @@ abbrev pub next : {A B : Type 0} → (List ℕ → Option A) → (List (List ℕ
 next read rest [] = None
 next read rest (w ∷ ws) = pair (read w) (rest ws)
 
+-- three in a row
+abbrev pub flat : {A B C : Type 0} → A × (B × C) → A × B × C
+flat p = (p.0, p.1.0, p.1.1)
+
 abbrev pub one : List (List ℕ) → Option Name
 one = last name
 

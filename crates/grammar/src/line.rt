@@ -7,21 +7,19 @@ ghost use Rattle.grammar.specs.Spelling.{StatementSpelt, HeaderSpelt};
 
 use crate::cursor::Words;
 use crate::name::{Header, Name};
-use crate::parse::{op_of, same, with_operands};
-use crate::words::number_of;
+use crate::parse::Op;
 use listing::statement::Statement;
 
-const LF: u8 = b'\n';
+// The end of a line.
+pub const LF: u8 = b'\n';
 
 // A line without its LF.
 fn body_of(line: &[u8]) -> Option<&[u8]>
     ensures { option_map (λ x. x.now) result ≡ body line.now }
 {
-    let n = line.len();
-    if n > 0 && line[n - 1] == LF {
-        Some(&line[0..n - 1])
-    } else {
-        None
+    match line {
+        [body @ .., LF] => Some(body),
+        _ => None,
     }
 }
 
@@ -29,21 +27,17 @@ fn statement_in(words: &[u8]) -> Option<Statement<Name>>
     ensures { result ≡ spelled (pieces words.now) }
 {
     let (name, rest) = Words::of(words).cut()?;
-    with_operands(op_of(name)?, rest)
+    Op::of(name)?.statement(rest)
 }
 
 fn header_in(words: &[u8]) -> Option<Header>
     ensures { result ≡ cells (pieces words.now) }
 {
-    let (name, rest) = Words::of(words).cut()?;
-    if !same(name, b"cells") {
+    let (b"cells", rest) = Words::of(words).cut()? else {
         return None;
-    }
-    let (word, rest) = rest.cut()?;
-    Some(Header {
-        globals: number_of(word)?,
-        locals: rest.number()?,
-    })
+    };
+    let (globals, locals) = rest.two()?;
+    Some(Header { globals, locals })
 }
 
 // The statement that a line spells.

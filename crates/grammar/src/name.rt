@@ -6,7 +6,7 @@ pub enum Name {
 }
 
 // `cells G L`
-#[derive(Clone, Copy, PartialEq, Eq, Debug)]
+#[derive(Clone, Copy, PartialEq, Eq, Debug, Default)]
 pub struct Header {
     pub globals: u16,
     pub locals: u16,

@@ -1,13 +1,13 @@
 // The words of a line as a statement.
 ghost use Rattle.std.specs.Prelude.{◌≡◌, [], ◌∷◌, MatchOption};
-ghost use Rattle.std.specs.Str.{bytes_eq};
+ghost use Rattle.std.specs.Option.{option_map};
 ghost use Rattle.grammar.specs.Words.{words};
 ghost use Rattle.grammar.specs.Left.{left};
-ghost use Rattle.grammar.specs.Grammar.{one, two, three, target, branch, argument, called, named, operands};
+ghost use Rattle.grammar.specs.Grammar.{last, next, flat, named, operands};
 
 use crate::cursor::Words;
 use crate::name::Name;
-use crate::words::{name_of, number_of, space};
+use crate::words::{Operand, space};
 use listing::numbers::{Point, Proc};
 use listing::statement::Statement;
 
@@ -23,82 +23,43 @@ impl<'a> Words<'a> {
         ensures { MatchOption result (left self.entry ≡ []) (λ p. left self.entry ≡ p.0.now ∷ left p.1) }
     {
         let line = self.rest?;
-        let n = space(line);
-        let word = &line[0..n];
-        if n < line.len() {
-            Some((
-                word,
+        match space(line) {
+            Some(n) => Some((
+                &line[..n],
                 Words {
                     rest: Some(&line[n + 1..]),
                 },
-            ))
-        } else {
-            Some((word, Words { rest: None }))
+            )),
+            None => Some((line, Words { rest: None })),
         }
     }
 
-    // One cell, and nothing after it.
-    fn name(self) -> Option<Name>
-        ensures { result ≡ one (left self.entry) }
+    // One operand, and nothing after it.
+    pub(crate) fn one<T: Operand>(self) -> Option<T>
+        ensures { result ≡ last T.reads (left self.entry) }
     {
         let (word, rest) = self.cut()?;
         match rest.cut() {
-            None => name_of(word),
+            None => T::read(word),
             Some(_) => None,
         }
     }
 
-    fn two_names(self) -> Option<(Name, Name)>
-        ensures { result ≡ two (left self.entry) }
+    pub(crate) fn two<T: Operand, U: Operand>(self) -> Option<(T, U)>
+        ensures { result ≡ next T.reads (last U.reads) (left self.entry) }
     {
         let (word, rest) = self.cut()?;
-        Some((name_of(word)?, rest.name()?))
+        Some((T::read(word)?, rest.one()?))
     }
 
-    fn three_names(self) -> Option<(Name, (Name, Name))>
-        ensures { result ≡ three (left self.entry) }
+    pub(crate) fn three<T: Operand, U: Operand, V: Operand>(self) -> Option<(T, U, V)>
+        ensures { result ≡ option_map flat (next T.reads (next U.reads (last V.reads)) (left self.entry)) }
     {
         let (word, rest) = self.cut()?;
-        Some((name_of(word)?, rest.two_names()?))
+        let first = T::read(word)?;
+        let (second, third) = rest.two()?;
+        Some((first, second, third))
     }
-
-    // One number, and nothing after it.
-    pub(crate) fn number(self) -> Option<u16>
-        ensures { result ≡ target (left self.entry) }
-    {
-        let (word, rest) = self.cut()?;
-        match rest.cut() {
-            None => number_of(word),
-            Some(_) => None,
-        }
-    }
-
-    fn name_number(self) -> Option<(Name, u16)>
-        ensures { result ≡ branch (left self.entry) }
-    {
-        let (word, rest) = self.cut()?;
-        Some((name_of(word)?, rest.number()?))
-    }
-
-    fn number_name(self) -> Option<(u16, Name)>
-        ensures { result ≡ argument (left self.entry) }
-    {
-        let (word, rest) = self.cut()?;
-        Some((number_of(word)?, rest.name()?))
-    }
-
-    fn name_number_name(self) -> Option<(Name, (u16, Name))>
-        ensures { result ≡ called (left self.entry) }
-    {
-        let (word, rest) = self.cut()?;
-        Some((name_of(word)?, rest.number_name()?))
-    }
-}
-
-pub(crate) fn same(a: &[u8], b: &[u8]) -> bool
-    ensures { result ≡ bytes_eq a.now b.now }
-{
-    a == b
 }
 
 // The name of a statement.
@@ -116,72 +77,64 @@ pub(crate) enum Op {
     Trim,
 }
 
-pub(crate) fn op_of(word: &[u8]) -> Option<Op>
-    ensures { result ≡ named word.now }
-{
-    if same(word, b"set") {
-        Some(Op::Set)
-    } else if same(word, b"move") {
-        Some(Op::Move)
-    } else if same(word, b"add") {
-        Some(Op::Add)
-    } else if same(word, b"read") {
-        Some(Op::Read)
-    } else if same(word, b"send") {
-        Some(Op::Send)
-    } else if same(word, b"goto") {
-        Some(Op::Goto)
-    } else if same(word, b"test") {
-        Some(Op::Test)
-    } else if same(word, b"call") {
-        Some(Op::Call)
-    } else if same(word, b"ret") {
-        Some(Op::Ret)
-    } else if same(word, b"trim") {
-        Some(Op::Trim)
-    } else {
-        None
+impl Op {
+    pub(crate) fn of(word: &[u8]) -> Option<Op>
+        ensures { result ≡ named word.now }
+    {
+        match word {
+            b"set" => Some(Op::Set),
+            b"move" => Some(Op::Move),
+            b"add" => Some(Op::Add),
+            b"read" => Some(Op::Read),
+            b"send" => Some(Op::Send),
+            b"goto" => Some(Op::Goto),
+            b"test" => Some(Op::Test),
+            b"call" => Some(Op::Call),
+            b"ret" => Some(Op::Ret),
+            b"trim" => Some(Op::Trim),
+            _ => None,
+        }
     }
-}
 
-// The statement of a name and its operands.
-pub(crate) fn with_operands(op: Op, rest: Words) -> Option<Statement<Name>>
-    ensures { result ≡ operands op (left rest.entry) }
-{
-    match op {
-        Op::Set => Some(Statement::Set { to: rest.name()? }),
-        Op::Move => {
-            let (to, from) = rest.two_names()?;
-            Some(Statement::Move { to, from })
-        }
-        Op::Add => {
-            let (to, (left, right)) = rest.three_names()?;
-            Some(Statement::Add { to, left, right })
-        }
-        Op::Read => Some(Statement::Read { to: rest.name()? }),
-        Op::Send => Some(Statement::Send { from: rest.name()? }),
-        Op::Goto => Some(Statement::Goto {
-            target: Point(rest.number()?),
-        }),
-        Op::Test => {
-            let (from, k) = rest.name_number()?;
-            Some(Statement::Test {
-                from,
-                target: Point(k),
-            })
-        }
-        Op::Call => {
-            let (to, (p, argument)) = rest.name_number_name()?;
-            Some(Statement::Call {
-                to,
-                callee: Proc(p),
-                argument,
-            })
-        }
-        Op::Ret => Some(Statement::Ret { from: rest.name()? }),
-        Op::Trim => {
-            let (to, from) = rest.two_names()?;
-            Some(Statement::Trim { to, from })
+    // The statement of this name with its operands.
+    pub(crate) fn statement(self, rest: Words) -> Option<Statement<Name>>
+        ensures { result ≡ operands self (left rest.entry) }
+    {
+        match self {
+            Op::Set => Some(Statement::Set { to: rest.one()? }),
+            Op::Move => {
+                let (to, from) = rest.two()?;
+                Some(Statement::Move { to, from })
+            }
+            Op::Add => {
+                let (to, left, right) = rest.three()?;
+                Some(Statement::Add { to, left, right })
+            }
+            Op::Read => Some(Statement::Read { to: rest.one()? }),
+            Op::Send => Some(Statement::Send { from: rest.one()? }),
+            Op::Goto => Some(Statement::Goto {
+                target: Point(rest.one()?),
+            }),
+            Op::Test => {
+                let (from, target) = rest.two()?;
+                Some(Statement::Test {
+                    from,
+                    target: Point(target),
+                })
+            }
+            Op::Call => {
+                let (to, callee, argument) = rest.three()?;
+                Some(Statement::Call {
+                    to,
+                    callee: Proc(callee),
+                    argument,
+                })
+            }
+            Op::Ret => Some(Statement::Ret { from: rest.one()? }),
+            Op::Trim => {
+                let (to, from) = rest.two()?;
+                Some(Statement::Trim { to, from })
+            }
         }
     }
 }

@@ -1,56 +1,69 @@
 // Words of a line.
-ghost use Rattle.std.specs.Prelude.{◌≡◌, ℕ, ◌<◌, ◌≤◌, length, ◌≢◌, slice_index};
-ghost use Rattle.grammar.specs.Words.{number, name};
+ghost use Rattle.std.specs.Prelude.{◌≡◌, ◌==◌, ℕ, List, Option};
+ghost use Rattle.std.specs.Char.{is_ascii_digit};
+ghost use Rattle.std.specs.List.{list_all, position};
+ghost use Rattle.grammar.specs.Words.{short, number, name};
 
 use crate::name::Name;
 
 const SPACE: u8 = b' ';
 
-// The index of the first space, or the length.
-pub(crate) fn space(line: &[u8]) -> usize
-    ensures within { result ≤ length line.now }
-    ensures before { (k : ℕ) → k < result → slice_index line.now k ≢ 32 }
-    ensures found { result < length line.now → slice_index line.now result ≡ 32 }
+// The index of the first space, or none.
+pub(crate) fn space(line: &[u8]) -> Option<usize>
+    ensures { result ≡ position (λ b. b == 32) line.now }
 {
-    for (i, b) in line.iter().enumerate() {
-        if *b == SPACE {
-            return i;
-        }
+    line.iter().position(|byte| *byte == SPACE)
+}
+
+// What one word of a line spells.
+pub(crate) trait Operand: Copy {
+    ghost reads: { List ℕ → Option Self };
+
+    fn read(word: &[u8]) -> Option<Self>
+        ensures { result ≡ reads word.now };
+}
+
+// One to four bytes, the first of them `0` only where it is the only one.
+fn is_short(word: &[u8]) -> bool
+    ensures { result ≡ short word.now }
+{
+    match word {
+        [] | [b'0', _, ..] => false,
+        _ => word.len() <= 4,
     }
-    line.len()
+}
+
+fn is_digits(word: &[u8]) -> bool
+    ensures { result ≡ list_all is_ascii_digit word.now }
+{
+    word.iter().all(|byte| byte.is_ascii_digit())
 }
 
 // One to four digits, no leading zero but in `0`.
-pub(crate) fn number_of(word: &[u8]) -> Option<u16>
-    ensures { result ≡ number word.now }
-{
-    if word.is_empty() || word.len() > 4 {
-        return None;
-    }
-    if word[0] == b'0' && word.len() > 1 {
-        return None;
-    }
-    let mut n = 0;
-    for b in word {
-        if !b.is_ascii_digit() {
+impl Operand for u16 {
+    ghost reads = { number };
+
+    fn read(word: &[u8]) -> Option<u16> {
+        if !is_short(word) || !is_digits(word) {
             return None;
         }
-        n = 10 * n + u16::from(*b - b'0');
+        str::from_utf8(word).ok()?.parse().ok()
     }
-    Some(n)
 }
 
-// The cell of a letter and a number.
-pub(crate) fn name_of(word: &[u8]) -> Option<Name>
-    ensures { result ≡ name word.now }
-{
-    let [letter, digits @ ..] = word else {
-        return None;
-    };
-    let n = number_of(digits)?;
-    match char::from(*letter) {
-        'g' => Some(Name::Global(n)),
-        'l' => Some(Name::Local(n)),
-        _ => None,
+// A letter, and a number.
+impl Operand for Name {
+    ghost reads = { name };
+
+    fn read(word: &[u8]) -> Option<Name> {
+        let [letter, digits @ ..] = word else {
+            return None;
+        };
+        let number = u16::read(digits)?;
+        match char::from(*letter) {
+            'g' => Some(Name::Global(number)),
+            'l' => Some(Name::Local(number)),
+            _ => None,
+        }
     }
 }

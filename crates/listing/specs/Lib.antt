@@ -3,3 +3,4 @@ pub mod Procedures
 pub mod Meaning
 pub mod Callers
 pub mod Lawful
+pub mod Faults

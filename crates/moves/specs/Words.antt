@@ -1,11 +1,13 @@
 -- A move as a word of 32 bits: from the top, 3 bits of kind, 10 of point, 6 of fact, and 13 zero bits.
-use Rattle.std.specs.Prelude.{◌≡◌, ℕ, ◌+◌, ◌*◌, ◌/◌, ◌%◌, Bool, true, cond, ◌&&◌, Some, None, Option, ◌==◌, nat_lt}
-use Rattle.std.specs.Option.{option_map}
+use Rattle.std.specs.Prelude.{◌≡◌, ℕ, ◌+◌, ◌*◌, ◌/◌, ◌%◌, Bool, true, cond, ◌&&◌, Some, None, Option, Result, ◌==◌, nat_lt}
+use Rattle.std.specs.Option.{option_map, ok_or}
+use Rattle.std.specs.Result.{result_ok}
 use Rattle.listing.specs.Meaning.{point}
 use Rattle.listing.specs.declared.numbers.Fact.{Fact}
 use Rattle.moves.specs.declared.moves.Kind.{Kind}
 use Rattle.moves.specs.declared.moves.Kind.TheVariants.{Start, Step, Past, Call, Return}
 use Rattle.moves.specs.declared.moves.Move.{Move}
+use Rattle.moves.specs.declared.words.NotAMove.{NotAMove}
 
 abbrev pub code : Kind → ℕ
 code Start = 1
@@ -42,3 +44,8 @@ decode w =
 pub record SameWord (w : ℕ) (r : Option Move) : Type 0 where
   pub only : (m : Move) → r ≡ Some m → (encoded m ≡ w) × (fits m ≡ true)
   pub all : (m : Move) → fits m ≡ true → encoded m ≡ w → r ≡ Some m
+
+-- what reading a word answers: the move that the word is decoded to, if any
+pub record ReadsMove (w : ℕ) (r : Result Move NotAMove) : Type 0 where
+  pub value : r ≡ ok_or (decode w) (record { 0 = w })
+  pub inverse : SameWord w (result_ok r)

@@ -1,5 +1,9 @@
 // One move of a path: its kind, and the point and the fact that it arrives at.
+ghost use Rattle.std.specs.Prelude.{Some};
+ghost use Rattle.moves.specs.Names.{kind_text};
+
 use listing::numbers::{Fact, Point};
+use std::fmt;
 
 #[derive(Clone, Copy, PartialEq, Eq, Debug)]
 pub enum Kind {
@@ -13,6 +17,20 @@ pub enum Kind {
     Call,
     // from the callee's exit to the point after the call
     Return,
+}
+
+impl fmt::Display for Kind {
+    ghost output = { λ k. Some (kind_text k) };
+
+    fn fmt<W: fmt::Write>(&self, f: &mut fmt::Formatter<W>) -> fmt::Result {
+        f.write_str(match self {
+            Kind::Start => "start",
+            Kind::Step => "step",
+            Kind::Past => "past",
+            Kind::Call => "call",
+            Kind::Return => "return",
+        })
+    }
 }
 
 #[derive(Clone, Copy, PartialEq, Eq, Debug)]

@@ -1,6 +1,6 @@
 // A move as a word: from the top, 3 bits of kind, 10 of point, 6 of fact, and 13 zero bits.
-ghost use Rattle.std.specs.Prelude.{◌≡◌, if◌then◌else◌, Some, None, MatchOption};
-ghost use Rattle.moves.specs.Words.{code, kind_of, encoded, fits, decode, SameWord};
+ghost use Rattle.std.specs.Prelude.{◌≡◌, if◌then◌else◌, Some, None, ok_or};
+ghost use Rattle.moves.specs.Words.{code, kind_of, encoded, fits, decode, ReadsMove};
 
 use crate::moves::{Kind, Move};
 use listing::numbers::{Fact, Point};
@@ -11,12 +11,24 @@ const FACTS: u32 = 64;
 
 const POINTS: u32 = 1024;
 
-impl Kind {
-    // The number of a kind, from 1.
-    pub fn number(self) -> u8
-        ensures { result ≡ code self }
-    {
-        match self {
+// A number that is no kind's.
+#[derive(Clone, Copy, PartialEq, Eq, Debug)]
+pub struct NotAKind(pub u8);
+
+// A word that is no move's.
+#[derive(Clone, Copy, PartialEq, Eq, Debug)]
+pub struct NotAMove(pub u32);
+
+// A move that has no word, since its point or its fact has too many bits.
+#[derive(Clone, Copy, PartialEq, Eq, Debug)]
+pub struct NoWord(pub Move);
+
+// The number of a kind, from 1.
+impl From<Kind> for u8 {
+    ghost from_gives = { λ kind number. number ≡ code kind };
+
+    fn from(kind: Kind) -> u8 {
+        match kind {
             Kind::Start => 1,
             Kind::Step => 2,
             Kind::Past => 3,
@@ -26,52 +38,61 @@ impl Kind {
     }
 }
 
-fn kind_of(number: u32) -> Option<Kind>
-    ensures { result ≡ kind_of number }
-{
-    match number {
-        1 => Some(Kind::Start),
-        2 => Some(Kind::Step),
-        3 => Some(Kind::Past),
-        4 => Some(Kind::Call),
-        5 => Some(Kind::Return),
-        _ => None,
+impl TryFrom<u8> for Kind {
+    type Error = NotAKind;
+
+    ghost try_from_gives = { λ number r. r ≡ ok_or (kind_of number) (record { 0 = number }) };
+
+    fn try_from(number: u8) -> Result<Kind, NotAKind> {
+        match number {
+            1 => Ok(Kind::Start),
+            2 => Ok(Kind::Step),
+            3 => Ok(Kind::Past),
+            4 => Ok(Kind::Call),
+            5 => Ok(Kind::Return),
+            _ => Err(NotAKind(number)),
+        }
     }
 }
 
-impl Move {
-    // The word of a move, or none where its point or its fact has too many bits.
-    pub fn word(self) -> Option<u32>
-        ensures { result ≡ (if fits self then Some (encoded self) else None) }
-    {
-        let point = u32::from(self.point.0);
-        let fact = u32::from(self.fact.0);
+// The word of a move.
+impl TryFrom<Move> for u32 {
+    type Error = NoWord;
+
+    ghost try_from_gives = { λ m r. r ≡ ok_or (if fits m then Some (encoded m) else None) (record { 0 = m }) };
+
+    fn try_from(m: Move) -> Result<u32, NoWord> {
+        let point = u32::from(m.point.0);
+        let fact = u32::from(m.fact.0);
         if point < POINTS && fact < FACTS {
-            Some(((u32::from(self.kind.number()) * POINTS + point) * FACTS + fact) * LOW)
+            Ok(((u32::from(u8::from(m.kind)) * POINTS + point) * FACTS + fact) * LOW)
         } else {
-            None
+            Err(NoWord(m))
         }
     }
+}
 
-    // The move of a word, or none where the word is no move's.
-    pub fn of_word(word: u32) -> Option<Move>
-        ensures value { result ≡ decode word }
-        ensures inverse { SameWord word result }
-    {
-        Move::read(word)
-    }
+// The move of a word.
+impl TryFrom<u32> for Move {
+    type Error = NotAMove;
 
-    fn read(word: u32) -> Option<Move>
-        ensures { result ≡ decode word }
-    {
-        if word % LOW != 0 {
-            return None;
-        }
-        let rest = word / LOW;
-        let fact = Fact((rest % FACTS) as u8);
-        let rest = rest / FACTS;
-        let point = Point((rest % POINTS) as u16);
-        let kind = kind_of(rest / POINTS)?;
-        Some(Move { kind, point, fact })
+    ghost try_from_gives = { ReadsMove };
+
+    fn try_from(word: u32) -> Result<Move, NotAMove> {
+        read(word).ok_or(NotAMove(word))
     }
+}
+
+fn read(word: u32) -> Option<Move>
+    ensures { result ≡ decode word }
+{
+    if word % LOW != 0 {
+        return None;
+    }
+    let rest = word / LOW;
+    let fact = Fact((rest % FACTS) as u8);
+    let rest = rest / FACTS;
+    let point = Point((rest % POINTS) as u16);
+    let kind = Kind::try_from((rest / POINTS) as u8).ok()?;
+    Some(Move { kind, point, fact })
 }

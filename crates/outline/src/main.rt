@@ -2,14 +2,10 @@
 #![tactic(auto)]
 
 use overview::outline::outline;
-use std::io::Read;
-
-// One byte more than a listing may have: enough to see that it is too long.
-const LIMIT: u64 = 32769;
+use text::input::take_listing;
 
 fn main(rt: HostRuntime) -> anyhow::Result<()> {
-    let mut bytes = Vec::new(rt.alloc());
-    rt.stdin().take(LIMIT).read_to_end(&mut bytes)?;
+    let bytes = take_listing(rt.alloc(), rt.stdin())?;
     let told = outline(rt.alloc(), bytes.as_slice())?;
     print!(rt; "{told}")?;
     Ok(())

@@ -1,15 +1,15 @@
 -- What is told of a listing, byte for byte.
-use Rattle.std.specs.Prelude.{ℕ, zero, suc, ◌+◌, ◌-◌, Bool, true, false, List, [], ◌∷◌, ◌++◌, Some, None, Ok, Err, codes, decimal, Option, Result}
+use Rattle.std.specs.Prelude.{ℕ, zero, suc, ◌+◌, ◌-◌, Bool, true, false, List, [], ◌∷◌, ◌++◌, Some, None, codes, decimal, Option, Result}
 use Rattle.std.specs.List.{slice_get}
-use Rattle.listing.specs.Meaning.{Meaning, flow, procs, totals}
+use Rattle.listing.specs.Meaning.{Meaning, point, proc, flow, procs, totals}
 use Rattle.listing.specs.Procedures.{bump, entry, exit}
 use Rattle.listing.specs.declared.counts.Counts.{Counts}
 use Rattle.listing.specs.declared.numbers.Cell.{Cell}
 use Rattle.listing.specs.declared.statement.Statement.{Statement}
 use Rattle.listing.specs.declared.statement.Statement.TheVariants.{Set, Move, Add, Read, Send, Goto, Test, Call, Ret, Trim}
-use Rattle.draft.specs.Questions.{refusal_text}
 use Rattle.draft.specs.declared.question.Refusal.{Refusal}
 use Rattle.text.specs.Reading.{reading}
+use Rattle.text.specs.Telling.{told_by}
 use Rattle.overview.specs.declared.section.Section.{Section}
 
 -- there is a `call`
@@ -35,9 +35,9 @@ calls_from m n (suc k) = bump (calls_at (slice_get m.statements n)) (calls_from 
 abbrev pub section : Meaning → ℕ → Section
 section m p =
     record {
-      number = p;
-      entry = entry (flow m) p;
-      exit = exit (flow m) p;
+      procedure = proc p;
+      entry = point (entry (flow m) p);
+      exit = point (exit (flow m) p);
       statements = exit (flow m) p + 1 - entry (flow m) p;
       calls = calls_from m (entry (flow m) p) (exit (flow m) p + 1 - entry (flow m) p);
     }
@@ -45,9 +45,9 @@ section m p =
 -- `procedure p entry E exit X statements S calls C`
 abbrev pub section_text : Section → List ℕ
 section_text s =
-    codes "procedure " ++ (decimal s.number
-    ++ (codes " entry " ++ (decimal s.entry
-    ++ (codes " exit " ++ (decimal s.exit
+    codes "procedure " ++ (decimal s.procedure.0
+    ++ (codes " entry " ++ (decimal s.entry.0
+    ++ (codes " exit " ++ (decimal s.exit.0
     ++ (codes " statements " ++ (decimal s.statements
     ++ (codes " calls " ++ decimal s.calls))))))))
 
@@ -69,8 +69,7 @@ described m = (heading_text (totals m) ++ (10 ∷ [])) ++ sections m (procs m)
 
 -- a refused listing gives `refused k at j` alone
 abbrev pub told : Result Meaning Refusal → List ℕ
-told (Ok m) = described m
-told (Err r) = refusal_text r ++ (10 ∷ [])
+told o = told_by described o
 
 abbrev pub outlined : List ℕ → List ℕ
 outlined t = told (reading t)

@@ -1,10 +1,6 @@
 -- What is written into a page that is lent.
-use Rattle.std.specs.Prelude.{◌≡◌, ℕ, ◌+◌, ◌<◌, ◌≤◌, List, [], ◌∷◌, ◌++◌, length, drop, Some, None, decimal, Option}
+use Rattle.std.specs.Prelude.{◌≡◌, ℕ, ◌+◌, ◌<◌, ◌≤◌, List, [], ◌∷◌, ◌++◌, length, Some, None, decimal, Option}
 use Rattle.paths.specs.Page.{put_at}
-
--- a part with a text at its front; what is behind it stays
-abbrev pub fronted : List ℕ → List ℕ → List ℕ
-fronted text part = text ++ drop (length text) part
 
 -- a text and then a number in decimal
 abbrev pub item : List ℕ → ℕ → List ℕ

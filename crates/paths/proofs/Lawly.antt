@@ -19,7 +19,7 @@ use Rattle.paths.specs.Words.{spelt, nested, trail_of, deep_of, least_found}
 use Rattle.paths.specs.Page.{pairs_of}
 use Rattle.paths.specs.Does.{Handed, Answer, gives, State, Closed, Begun, Turn, no, fitting, memory_by, trail_turn_by, trail_turn, trail_answer, Call, Foot, Trail, Newly, Row}
 use Rattle.paths.specs.Exactly.{Exactly}
-use Rattle.paths.specs.Law.{accepted, OnePage, Reached, Reported, out_of_range, not_reached, no_fit, Told, table_in, Law, Sound}
+use Rattle.paths.specs.Law.{accepted, OnePage, Reported, out_of_range, not_reached, no_fit, Told, table_in, Law, Sound}
 use Rattle.paths.proofs.Grow.{both_left, both_right, both_two, Base}
 use Rattle.paths.proofs.Cover.{after, base_after, starts_after, rest_after}
 use Rattle.paths.proofs.Mirror.{Mirror, at_newly, same_found}
@@ -65,16 +65,6 @@ module _ (H : Handed) (sound : Sound H) (first : Tabled) (at_first : Mirror H.po
         counted = subst (λ (k : ℕ). rows.Number (λ c. ReachedCell P Q (Accepted (accepted calls)) c.point c.origin c.fact) k) (sym w.mirror.settled) (all.number tt);
         bounded = (let b = all.bound in let e = w.mirror.settled in omega arith);
       }
-
-  path_reached : (starts : List (ℕ × ℕ)) (ws : List Move) (n d : ℕ) → PathTo P Q (Accepted starts) ws n d → Reached H starts n d
-  path_reached starts ws n d p = record {
-    proc = p.proc;
-    origin = p.origin;
-    accepted = p.accepted;
-    moves = ws;
-    open_calls = p.open_calls;
-    path = p.path;
-  }
 
   spelt_length : (ws : List Move) → length (spelt ws) ≡ length ws
   spelt_length ws = length-map (reverse ws) encoded ∙ length-reverse ws

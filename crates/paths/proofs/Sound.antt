@@ -13,12 +13,6 @@ use Rattle.paths.specs.Paths.{Matched, start, step, past, call, return, ReachedP
 use Rattle.paths.specs.Table.{TableCell, cell, Table, Found, Before, Why, as_start, as_step, as_past, as_call, as_return, Justified}
 
 module _ (P : Supergraph) (Q : Rule) where
-  -- the moves of a path behind its start
-  abbrev pub behind : List Move → List Move → List Move
-  behind [] us = us
-  behind (w ∷ []) us = us
-  behind (w ∷ v ∷ ws) us = w ∷ behind (v ∷ ws) us
-
   -- a path goes on where another ends; it may open calls on top of those open there
   pub joined : (p a : ℕ) {us : List Move} {open' : List ℕ} (q b : ℕ) {ws : List Move} {more : List ℕ} {n d : ℕ}
       → Matched P Q p a us open' (P.entry q) b → Matched P Q q b ws more n d

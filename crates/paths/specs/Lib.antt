@@ -12,9 +12,11 @@ pub mod Tabled
 pub mod Page
 pub mod Words
 pub mod Does
+pub mod Handing
 pub mod Law
 pub mod Exactly
 pub mod Checked
 pub mod Usage
 pub mod Sample
 pub mod Worked
+pub mod Ends

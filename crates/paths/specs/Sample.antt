@@ -4,7 +4,7 @@ use Rattle.std.proofs.Common.{lit≤}
 use Rattle.listing.specs.declared.numbers.Cell.{Cell}
 use Rattle.listing.specs.declared.statement.Statement.TheVariants.{Set, Read, Send, Call, Ret, Trim}
 use Rattle.listing.specs.Meaning.{Meaning, proc}
-use Rattle.flow.specs.declared.cells.CellCounts.{CellCounts}
+use Rattle.listing.specs.declared.cells.CellCounts.{CellCounts}
 use Rattle.flow.specs.Relation.{Rule}
 use Rattle.flow.specs.Unset.{unset}
 use Rattle.flow.specs.Raw.{raw}

@@ -2,7 +2,7 @@
 use Rattle.std.specs.Prelude.{◌≡◌, ℕ, List, [], ◌∷◌, ◌++◌, length, replicate, Some, None, codes}
 use Rattle.std.proofs.Common.{lit≤}
 use Rattle.listing.specs.declared.statement.Statement.TheVariants.{Add, Ret}
-use Rattle.flow.specs.declared.cells.CellCounts.{CellCounts}
+use Rattle.listing.specs.declared.cells.CellCounts.{CellCounts}
 use Rattle.flow.specs.Unset.{unset}
 use Rattle.paths.specs.Supergraph.{graph_of}
 use Rattle.paths.specs.declared.worklist.End.TheVariants.{Oldest}

@@ -18,116 +18,85 @@ ghost use Rattle.paths.specs.Usage.{Usable};
 ghost use Rattle.paths.specs.Sample.{Absent, Sample, SampleA};
 ghost use Rattle.paths.specs.Worked.{Worked};
 
+pub mod analysis;
 pub mod worklist;
 
 // The graph of a lawful program is lawful.
-pub fn listings() -> u8
+pub fn listings()
     ensures { Listings }
-{
-    0
-}
+{}
 
 // What a settled table has found is what call-matched paths reach.
-pub fn tabulates() -> u8
+pub fn tabulates()
     ensures { Tabulates }
-{
-    0
-}
+{}
 
 // The trail of a found cell is a call-matched path.
-pub fn trails() -> u8
+pub fn trails()
     ensures { Trails }
-{
-    0
-}
+{}
 
 // What holds after any row of calls.
-pub fn any_row() -> u8
+pub fn any_row()
     ensures { AnyRow }
-{
-    0
-}
+{}
 
 // What holds after any list of calls, refused ones included.
-pub fn any_calls() -> u8
+pub fn any_calls()
     ensures { AnyCalls }
-{
-    0
-}
+{}
 
 // The check of moves passes the call-matched paths and no others.
-pub fn checks() -> u8
+pub fn checks()
     ensures { Checks }
-{
-    0
-}
+{}
 
 // Writing a record to memory is putting an entry into the table.
-pub fn writes() -> u8
+pub fn writes()
     ensures { Writes }
-{
-    0
-}
+{}
 
 // The law over every row of calls.
-pub fn the_law() -> u8
+pub fn the_law()
     ensures { TheLaw }
-{
-    0
-}
+{}
 
 // A closed table has found what is reached, after every row of calls.
-pub fn exact_rows() -> u8
+pub fn exact_rows()
     ensures { ExactRows }
-{
-    0
-}
+{}
 
 // The check of words is exact.
-pub fn the_check() -> u8
+pub fn the_check()
     ensures { TheCheck }
-{
-    0
-}
+{}
 
 // What a caller may carry from call to call leads to the law.
-pub fn usable() -> u8
+pub fn usable()
     ensures { Usable }
-{
-    0
-}
+{}
 
 // The form of the clause on open: H stands for what the arguments mean.
-pub fn opens(points: u16, facts: u8) -> u8
+pub fn opens(points: u16, facts: u8)
     ensures { (H : Handed) → Sound H → H.points ≡ points → H.facts ≡ facts → (memory : List Rec) → points * facts * facts ≤ length memory → LawFrom H (newly_in points facts memory) }
-{
-    0
-}
+{}
 
 // A sample under unset, settled newest first.
-pub fn sample_a() -> u8
+pub fn sample_a()
     ensures { SampleA }
-{
-    0
-}
+{}
 
 // A sample under raw, settled oldest first.
-pub fn sample() -> u8
+pub fn sample()
     ensures { Sample }
-{
-    0
-}
+{}
 
 // Which pairs of that sample call-matched paths reach.
-pub fn absent() -> u8
+pub fn absent()
     ensures { Absent }
-{
-    0
-}
+{}
 
 // What the calls answer on samples.
-pub fn worked() -> u8
+pub fn worked()
     ensures { Worked }
-{
-    0
-}
+{}

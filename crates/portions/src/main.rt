@@ -5,58 +5,46 @@
 
 use flow::choice::Choice;
 use paths::worklist::End;
-use progress::portion::Portion;
-use progress::told::tabulate_listing;
+use progress::portion::{Pace, Portion};
+use progress::told::{Tabulation, tabulate_listing};
 use std::env;
-use std::io::Read;
-
-// One byte more than a listing may have: enough to see that it is too long.
-const LIMIT: u64 = 32769;
+use text::input::take_listing;
 
 fn portion_of(word: &str) -> Option<Portion> {
-    match word.parse::<u32>() {
-        Ok(size) => Portion::new(size),
-        Err(_) => None,
-    }
+    Portion::new(word.parse().ok()?)
 }
 
-fn end_of(word: &str) -> Option<End> {
-    if word == "oldest" {
-        Some(End::Oldest)
-    } else if word == "newest" {
-        Some(End::Newest)
-    } else {
-        None
-    }
+// What the arguments ask for, or what is wrong with them.
+fn asked(args: env::Args) -> Result<Tabulation, &'static str> {
+    let mut words = args.skip(1);
+    let choice = words
+        .next()
+        .and_then(|word| word.as_str().parse().ok())
+        .ok_or("the first argument is the problem, unset or raw")?;
+    let portion = words
+        .next()
+        .and_then(|word| portion_of(word.as_str()))
+        .ok_or("the second argument is the number of cells in a portion, 1 or more")?;
+    let from = match (words.next(), words.next()) {
+        (None, _) => Some(End::Oldest),
+        (Some(word), None) => word.as_str().parse().ok(),
+        _ => None,
+    };
+    let from = from.ok_or("the third argument, if any, is oldest or newest; there is no fourth")?;
+    Ok(Tabulation {
+        choice,
+        pace: Pace { portion, from },
+    })
 }
 
 fn main(rt: HostRuntime) -> anyhow::Result<()> {
-    let mut bytes = Vec::new(rt.alloc());
-    rt.stdin().take(LIMIT).read_to_end(&mut bytes)?;
-    let mut choice = None;
-    let mut portion = None;
-    let mut end = Some(End::Oldest);
-    for (place, word) in env::args(&rt)?.skip(1).enumerate() {
-        match place {
-            0 => choice = Choice::named(word.as_str()),
-            1 => portion = portion_of(word.as_str()),
-            2 => end = end_of(word.as_str()),
-            _ => end = None,
+    let bytes = take_listing(rt.alloc(), rt.stdin())?;
+    match asked(env::args(&rt)?) {
+        Ok(tabulation) => {
+            let told = tabulate_listing(rt.alloc(), bytes.as_slice(), tabulation)?;
+            print!(rt; "{told}")?;
         }
+        Err(wrong) => println!(rt; "{wrong}")?,
     }
-    let Some(choice) = choice else {
-        println!(rt; "the first argument is the problem, unset or raw")?;
-        return Ok(());
-    };
-    let Some(portion) = portion else {
-        println!(rt; "the second argument is the number of cells in a portion, 1 or more")?;
-        return Ok(());
-    };
-    let Some(end) = end else {
-        println!(rt; "the third argument, if any, is oldest or newest; there is no fourth")?;
-        return Ok(());
-    };
-    let told = tabulate_listing(rt.alloc(), bytes.as_slice(), choice, portion, end)?;
-    print!(rt; "{told}")?;
     Ok(())
 }

@@ -1,2 +1,3 @@
 pub mod Working
 pub mod Seeds
+pub mod Chosen

@@ -1,14 +1,14 @@
 -- What is told of a listing that is tabulated in portions.
-use Rattle.std.specs.Prelude.{ℕ, List, [], ◌∷◌, ◌++◌, Ok, Err, Result}
+use Rattle.std.specs.Prelude.{ℕ, List, Result}
 use Rattle.listing.specs.Meaning.{Meaning}
 use Rattle.draft.specs.declared.question.Refusal.{Refusal}
-use Rattle.draft.specs.Questions.{refusal_text}
 use Rattle.flow.specs.CellFacts.{facts_in}
 use Rattle.flow.specs.Choices.{rule_of, starts_of}
 use Rattle.flow.specs.declared.choice.Choice.{Choice}
 use Rattle.paths.specs.Does.{Handed, handed}
 use Rattle.paths.specs.declared.worklist.End.{End}
 use Rattle.text.specs.Reading.{reading}
+use Rattle.text.specs.Telling.{told_by, HoldsBy}
 use Rattle.progress.specs.Progress.{progress, EndsCounted}
 
 -- a program and a problem about g globals and l locals
@@ -30,16 +30,14 @@ ChosenCounted choice m text = CountedIn choice m.globals m.locals m text
 
 -- a refused listing gives `refused k at j` alone
 abbrev pub over_read : Result Meaning Refusal → Choice → ℕ → End → List ℕ
-over_read (Ok m) choice k from = chosen choice m k from
-over_read (Err r) choice k from = refusal_text r ++ (10 ∷ [])
+over_read o choice k from = told_by (λ m. chosen choice m k from) o
 
 abbrev pub told_of : List ℕ → Choice → ℕ → End → List ℕ
 told_of t choice k from = over_read (reading t) choice k from
 
 -- of a listing that is read, the last line tells how many cells are reached from the default starts in the program that it means
 abbrev pub OverCounted : Result Meaning Refusal → Choice → List ℕ → Type 0
-OverCounted (Ok m) choice text = ChosenCounted choice m text
-OverCounted (Err r) choice text = Unit {0}
+OverCounted o choice text = HoldsBy (λ m s. ChosenCounted choice m s) o text
 
 abbrev pub ListingCounted : List ℕ → Choice → List ℕ → Type 0
 ListingCounted t choice text = OverCounted (reading t) choice text

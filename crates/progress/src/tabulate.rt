@@ -1,45 +1,38 @@
 // Tabulating a problem over a program, portion by portion.
-ghost use Rattle.std.specs.Prelude.{◌≡◌, ℕ, ◌+◌, ◌*◌, [], replicate, IfOk, string_bytes};
+ghost use Rattle.std.specs.Prelude.{◌≡◌, [], replicate, IfOk, string_bytes};
 ghost use Rattle.records.specs.Blank.{blank};
-ghost use Rattle.paths.specs.Does.{handed, gives, Closed, Closes};
-ghost use Rattle.listing.specs.Meaning.{size};
-ghost use Rattle.table.specs.State.{state};
-ghost use Rattle.progress.specs.Progress.{progress, lines, last, EndsCounted};
+ghost use Rattle.paths.specs.Does.{gives, Closed, Closes};
+ghost use Rattle.paths.specs.Handing.{handed_by};
+ghost use Rattle.table.specs.State.{state, Serves};
+ghost use Rattle.progress.specs.Progress.{enough, progress, EndsCounted};
 ghost use Rattle.progress.specs.Told.{Seeded, WorkedOff};
 
-use crate::portion::Portion;
+use crate::portion::Pace;
 use flow::interface::Problem;
 use listing::program::Program;
-use paths::worklist::End;
+use paths::analysis::Analysis;
 use records::record::Record;
 use starts::sow_starts;
 use std::alloc::{AllocError, Global};
+use std::fmt::Write;
 use table::state::{OpenTable, records_for};
 
 // Settles portion after portion while a cell waits, and tells the tallies after each.
 fn work_off<P: Program, Q: Problem>(
     heap: Global,
     table: &mut OpenTable,
-    program: &P,
-    problem: &Q,
-    portion: Portion,
-    from: End,
-    cells: u32,
+    on: &Analysis<P, Q>,
+    pace: Pace,
 ) -> Result<String, AllocError>
-    requires points { (state table.old).points ≡ size (P.meaning program.now) }
-    requires facts { (state table.old).facts ≡ Q.count problem.now }
-    requires cells { cells ≡ size (P.meaning program.now) * Q.count problem.now * Q.count problem.now }
-    ensures { IfOk result (λ s. WorkedOff (handed (P.meaning program.now) (Q.relation problem.now) (Q.count problem.now)) portion.size from (cells + 1) (state table.old) (string_bytes s) (state table.new)) }
+    requires { Serves (handed_by P.Program Q.Problem on.now) table.old.core }
+    ensures { let h = handed_by P.Program Q.Problem on.now in IfOk result (λ s. WorkedOff h pace.portion.size pace.from (enough h) (state table.old) (string_bytes s) (state table.new)) }
 {
     let mut out = String::new(heap);
-    for _ in 0..cells + 1 {
-        if table.tallies().waiting == 0 {
-            return Ok(out);
-        }
-        let _ = table.work(program, problem, portion.size(), from);
+    while table.tallies().waiting > 0 {
+        // the table is of this program and this problem, so the call is not refused
+        let _ = table.work(on, pace.portion.size, pace.from);
         let tallies = table.tallies();
-        let line = format!(in heap; "{tallies}\n")?;
-        out.push_str(line.as_str())?;
+        writeln!(out, "{tallies}")?;
     }
     Ok(out)
 }
@@ -54,16 +47,15 @@ fn memory_for(heap: Global, cells: u32) -> Result<Vec<Record>, AllocError>
 // A table of a program and a problem, with the default starts sown.
 fn seeded<P: Program, Q: Problem>(
     heap: Global,
-    program: &P,
-    problem: &Q,
+    on: &Analysis<P, Q>,
 ) -> Result<OpenTable, AllocError>
-    ensures { IfOk result (λ t. Seeded (handed (P.meaning program.now) (Q.relation problem.now) (Q.count problem.now)) (Q.starts problem.now) (state t)) }
+    ensures { IfOk result (λ t. Seeded (handed_by P.Program Q.Problem on.now) (Q.starts on.now.problem.now) (state t)) }
 {
-    let memory = memory_for(heap, records_for(program, problem))?;
-    let Ok(mut table) = OpenTable::open(memory, program, problem) else {
+    let memory = memory_for(heap, records_for(on))?;
+    let Ok(mut table) = OpenTable::open(memory, on) else {
         unreachable()
     };
-    sow_starts(&mut table, program, problem);
+    sow_starts(&mut table, on);
     Ok(table)
 }
 
@@ -83,34 +75,28 @@ fn settled_cells(table: OpenTable) -> u32
 fn tell_all<P: Program, Q: Problem>(
     heap: Global,
     mut table: OpenTable,
-    program: &P,
-    problem: &Q,
-    portion: Portion,
-    from: End,
+    on: &Analysis<P, Q>,
+    pace: Pace,
 ) -> Result<String, AllocError>
-    requires { Seeded (handed (P.meaning program.now) (Q.relation problem.now) (Q.count problem.now)) (Q.starts problem.now) (state table) }
-    ensures text { IfOk result (λ s. string_bytes s ≡ progress (handed (P.meaning program.now) (Q.relation problem.now) (Q.count problem.now)) (Q.starts problem.now) portion.size from) }
-    ensures law { IfOk result (λ s. EndsCounted (handed (P.meaning program.now) (Q.relation problem.now) (Q.count problem.now)) (Q.starts problem.now) (string_bytes s)) }
+    requires { Seeded (handed_by P.Program Q.Problem on.now) (Q.starts on.now.problem.now) (state table) }
+    ensures text { IfOk result (λ s. string_bytes s ≡ progress (handed_by P.Program Q.Problem on.now) (Q.starts on.now.problem.now) pace.portion.size pace.from) }
+    ensures law { IfOk result (λ s. EndsCounted (handed_by P.Program Q.Problem on.now) (Q.starts on.now.problem.now) (string_bytes s)) }
 {
-    let cells = records_for(program, problem);
-    let mut out = work_off(heap, &mut table, program, problem, portion, from, cells)?;
+    let mut out = work_off(heap, &mut table, on, pace)?;
     let count = settled_cells(table);
-    let line = format!(in heap; "cells {count}\n")?;
-    out.push_str(line.as_str())?;
+    writeln!(out, "cells {count}")?;
     Ok(out)
 }
 
 // Tabulates a problem over a program from its default starts: tells the tallies after each portion, and then the number of cells.
 pub fn tabulate<P: Program, Q: Problem>(
     heap: Global,
-    program: &P,
-    problem: &Q,
-    portion: Portion,
-    from: End,
+    on: &Analysis<P, Q>,
+    pace: Pace,
 ) -> Result<String, AllocError>
-    ensures text { IfOk result (λ s. string_bytes s ≡ progress (handed (P.meaning program.now) (Q.relation problem.now) (Q.count problem.now)) (Q.starts problem.now) portion.size from) }
-    ensures law { IfOk result (λ s. EndsCounted (handed (P.meaning program.now) (Q.relation problem.now) (Q.count problem.now)) (Q.starts problem.now) (string_bytes s)) }
+    ensures text { IfOk result (λ s. string_bytes s ≡ progress (handed_by P.Program Q.Problem on.now) (Q.starts on.now.problem.now) pace.portion.size pace.from) }
+    ensures law { IfOk result (λ s. EndsCounted (handed_by P.Program Q.Problem on.now) (Q.starts on.now.problem.now) (string_bytes s)) }
 {
-    let table = seeded(heap, program, problem)?;
-    tell_all(heap, table, program, problem, portion, from)
+    let table = seeded(heap, on)?;
+    tell_all(heap, table, on, pace)
 }

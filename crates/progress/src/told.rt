@@ -2,31 +2,58 @@
 ghost use Rattle.std.specs.Prelude.{◌≡◌, IfOk, string_bytes};
 ghost use Rattle.progress.specs.Listed.{chosen, told_of, ChosenCounted, ListingCounted};
 
-use crate::portion::Portion;
+use crate::portion::Pace;
 use crate::tabulate::tabulate;
-use flow::cells::CellCounts;
+use flow::cells::{CellCounts, CellProblem};
 use flow::choice::Choice;
 use flow::raw::Raw;
 use flow::unset::Unset;
 use listing::program::Program;
-use paths::worklist::End;
+use paths::analysis::Analysis;
 use std::alloc::{AllocError, Global};
-use text::text::Text;
+use text::tell::{Describe, tell};
+
+// A tabulation in portions, under one of the problems.
+#[derive(Clone, Copy)]
+pub struct Tabulation {
+    pub choice: Choice,
+    pub pace: Pace,
+}
 
 fn tabulate_under<P: Program>(
     heap: Global,
     program: &P,
-    choice: Choice,
-    portion: Portion,
-    from: End,
+    tabulation: Tabulation,
 ) -> Result<String, AllocError>
-    ensures text { IfOk result (λ s. string_bytes s ≡ chosen choice (P.meaning program.now) portion.size from) }
-    ensures law { IfOk result (λ s. ChosenCounted choice (P.meaning program.now) (string_bytes s)) }
+    ensures text { IfOk result (λ s. string_bytes s ≡ chosen tabulation.choice (P.meaning program.now) tabulation.pace.portion.size tabulation.pace.from) }
+    ensures law { IfOk result (λ s. ChosenCounted tabulation.choice (P.meaning program.now) (string_bytes s)) }
 {
+    let Tabulation { choice, pace } = tabulation;
     let counts = CellCounts::of(program);
+    // A problem is a type, so a match has to pick one. Shared with the review, the match would take a trait with a method that is generic in the problem, and a law of
+    // it for each rule: no plainer.
     match choice {
-        Choice::Unset => tabulate(heap, program, &Unset { counts }, portion, from),
-        Choice::Raw => tabulate(heap, program, &Raw { counts }, portion, from),
+        Choice::Unset => {
+            let problem = &CellProblem {
+                counts,
+                rule: Unset,
+            };
+            tabulate(heap, &Analysis { program, problem }, pace)
+        }
+        Choice::Raw => {
+            let problem = &CellProblem { counts, rule: Raw };
+            tabulate(heap, &Analysis { program, problem }, pace)
+        }
+    }
+}
+
+impl Describe for Tabulation {
+    ghost text = { λ t m. chosen t.choice m t.pace.portion.size t.pace.from };
+
+    ghost law = { λ t m s. ChosenCounted t.choice m s };
+
+    fn describe<P: Program>(&self, heap: Global, program: &P) -> Result<String, AllocError> {
+        tabulate_under(heap, program, *self)
     }
 }
 
@@ -34,16 +61,10 @@ fn tabulate_under<P: Program>(
 pub fn tabulate_listing(
     heap: Global,
     bytes: &[u8],
-    choice: Choice,
-    portion: Portion,
-    from: End,
+    tabulation: Tabulation,
 ) -> Result<String, AllocError>
-    ensures text { IfOk result (λ s. string_bytes s ≡ told_of bytes.now choice portion.size from) }
-    ensures law { IfOk result (λ s. ListingCounted bytes.now choice (string_bytes s)) }
+    ensures text { IfOk result (λ s. string_bytes s ≡ told_of bytes.now tabulation.choice tabulation.pace.portion.size tabulation.pace.from) }
+    ensures law { IfOk result (λ s. ListingCounted bytes.now tabulation.choice (string_bytes s)) }
 {
-    let mut text = Text::shortest();
-    match text.read(bytes) {
-        Ok(_) => tabulate_under(heap, &text, choice, portion, from),
-        Err(refusal) => format!(in heap; "{refusal}\n"),
-    }
+    tell(heap, bytes, &tabulation)
 }

@@ -4,7 +4,8 @@ ghost use Rattle.records.specs.Blank.{blank};
 
 use moves::moves::Kind;
 
-// How a cell was found.
+// How a cell was found. The format of a record is a rule of the project: rank, kind, first and second, with 0 for a rank or a cell that is
+// not there.
 #[derive(Clone, Copy)]
 pub struct Record {
     // the cell was found as the one of this number, from 1; 0 where it is not found
@@ -18,7 +19,7 @@ pub struct Record {
 }
 
 impl Record {
-    // The record of a cell that is not found.
+    // The record of a cell that is not found. The format fixes each of its fields, so they are written out here and not derived.
     pub fn blank() -> Record
         ensures { result ≡ blank }
     {

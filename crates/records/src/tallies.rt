@@ -15,9 +15,10 @@ impl fmt::Display for Tallies {
     ghost output = { λ t. Some (tallies_text t) };
 
     fn fmt<W: fmt::Write>(&self, f: &mut fmt::Formatter<W>) -> fmt::Result {
-        let found = self.found;
-        let settled = self.settled;
-        let waiting = self.waiting;
-        write!(f, "found {found} settled {settled} waiting {waiting}")
+        write!(
+            f,
+            "found {} settled {} waiting {}",
+            self.found, self.settled, self.waiting
+        )
     }
 }

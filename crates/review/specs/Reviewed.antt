@@ -4,15 +4,9 @@ use Rattle.listing.specs.declared.numbers.Cell.{Cell}
 use Rattle.moves.specs.declared.moves.Kind.{Kind}
 use Rattle.moves.specs.declared.moves.Kind.TheVariants.{Start, Step, Past, Call, Return}
 use Rattle.moves.specs.declared.moves.Move.{Move}
+pub use Rattle.moves.specs.Names.{kind_text}
 use Rattle.moves.specs.Words.{decode}
 use Rattle.review.specs.declared.lines.MoveLine.{MoveLine}
-
-abbrev pub kind_text : Kind → List ℕ
-kind_text Start = codes "start"
-kind_text Step = codes "step"
-kind_text Past = codes "past"
-kind_text Call = codes "call"
-kind_text Return = codes "return"
 
 abbrev pub item_text : Option Cell → List ℕ
 item_text None = codes "zero"

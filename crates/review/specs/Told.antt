@@ -1,14 +1,14 @@
 -- What is told of a trail over a listing, byte for byte.
-use Rattle.std.specs.Prelude.{ℕ, List, [], ◌∷◌, ◌++◌, length, Ok, Err, Result}
+use Rattle.std.specs.Prelude.{ℕ, List, length, Result}
 use Rattle.listing.specs.Meaning.{Meaning}
 use Rattle.draft.specs.declared.question.Refusal.{Refusal}
-use Rattle.draft.specs.Questions.{refusal_text}
 use Rattle.flow.specs.CellFacts.{facts_in, spoken_in}
 pub use Rattle.flow.specs.Choices.{rule_of}
 use Rattle.flow.specs.declared.choice.Choice.{Choice}
 use Rattle.paths.specs.Does.{handed}
 use Rattle.paths.specs.Checked.{check_no}
 use Rattle.text.specs.Reading.{reading}
+use Rattle.text.specs.Telling.{told_by}
 use Rattle.review.specs.Reviewed.{reviewed}
 
 abbrev pub told_in : Choice → ℕ → ℕ → Meaning → List ℕ → List ℕ
@@ -20,8 +20,7 @@ chosen choice m xs = told_in choice m.globals m.locals m xs
 
 -- a refused listing gives `refused k at j` alone
 abbrev pub over_read : Result Meaning Refusal → Choice → List ℕ → List ℕ
-over_read (Ok m) choice xs = chosen choice m xs
-over_read (Err r) choice xs = refusal_text r ++ (10 ∷ [])
+over_read o choice xs = told_by (λ m. chosen choice m xs) o
 
 abbrev pub told_of : List ℕ → Choice → List ℕ → List ℕ
 told_of t choice xs = over_read (reading t) choice xs

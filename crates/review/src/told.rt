@@ -3,13 +3,14 @@ ghost use Rattle.std.specs.Prelude.{◌≡◌, IfOk, string_bytes};
 ghost use Rattle.review.specs.Told.{chosen, told_of};
 
 use crate::trail::review;
-use flow::cells::CellCounts;
+use flow::cells::{CellCounts, CellProblem};
 pub use flow::choice::Choice;
 use flow::raw::Raw;
 use flow::unset::Unset;
 use listing::program::Program;
+use paths::analysis::Analysis;
 use std::alloc::{AllocError, Global};
-use text::text::Text;
+use text::tell::{Describe, tell};
 
 fn review_under<P: Program>(
     heap: Global,
@@ -20,9 +21,35 @@ fn review_under<P: Program>(
     ensures { IfOk result (λ s. string_bytes s ≡ chosen choice (P.meaning program.now) words.now) }
 {
     let counts = CellCounts::of(program);
+    // A problem is a type, so a match has to pick one. Shared with the tabulation, the match would take a trait with a method that is generic in the problem, and
+    // a law of it for each rule: no plainer.
     match choice {
-        Choice::Unset => review(heap, program, &Unset { counts }, words),
-        Choice::Raw => review(heap, program, &Raw { counts }, words),
+        Choice::Unset => {
+            let problem = &CellProblem {
+                counts,
+                rule: Unset,
+            };
+            review(heap, &Analysis { program, problem }, words)
+        }
+        Choice::Raw => {
+            let problem = &CellProblem { counts, rule: Raw };
+            review(heap, &Analysis { program, problem }, words)
+        }
+    }
+}
+
+// A trail in words, under one of the problems.
+#[derive(Clone, Copy)]
+struct Trail<'a> {
+    choice: Choice,
+    words: &'a [u32],
+}
+
+impl Describe for Trail<'_> {
+    ghost text = { λ t m. chosen t.choice m t.words.now };
+
+    fn describe<P: Program>(&self, heap: Global, program: &P) -> Result<String, AllocError> {
+        review_under(heap, program, self.choice, self.words)
     }
 }
 
@@ -35,9 +62,5 @@ pub fn review_listing(
 ) -> Result<String, AllocError>
     ensures { IfOk result (λ s. string_bytes s ≡ told_of bytes.now choice words.now) }
 {
-    let mut text = Text::shortest();
-    match text.read(bytes) {
-        Ok(_) => review_under(heap, &text, choice, words),
-        Err(refusal) => format!(in heap; "{refusal}\n"),
-    }
+    tell(heap, bytes, &Trail { choice, words })
 }

@@ -1,15 +1,16 @@
 // A whole trail in words.
 ghost use Rattle.std.specs.Prelude.{◌≡◌, length, take, IfOk, string_bytes};
-ghost use Rattle.paths.specs.Does.{handed};
+ghost use Rattle.paths.specs.Handing.{handed_by};
 ghost use Rattle.trail_check.specs.Handing.{told};
 ghost use Rattle.paths.specs.Checked.{check_no};
 ghost use Rattle.review.specs.Reviewed.{lines_of, lawful_words, reviewed};
 
-use crate::lines::{Item, MoveLine, Verdict, open_after};
+use crate::lines::{Item, MoveLine, open_after};
 use flow::interface::Problem;
 use listing::numbers::{Cell, Point};
 use listing::program::Program;
 use moves::moves::Move;
+use paths::analysis::Analysis;
 use std::alloc::{AllocError, Global};
 use trail_check::fault::Fault;
 use trail_check::trail::check_trail;
@@ -25,8 +26,8 @@ fn move_lines<Q: Problem<Item = Cell>>(
     let mut out = String::new(heap);
     let mut height = 0;
     for word in words {
-        let Some(arriving) = Move::of_word(*word) else {
-            return Ok(out);
+        let Ok(arriving) = Move::try_from(*word) else {
+            break;
         };
         height = open_after(height, arriving.kind);
         let item = Item {
@@ -37,8 +38,7 @@ fn move_lines<Q: Problem<Item = Cell>>(
             item,
             height,
         };
-        let text = format!(in heap; "{line}\n")?;
-        out.push_str(text.as_str())?;
+        writeln!(out, "{line}")?;
     }
     Ok(out)
 }
@@ -46,15 +46,13 @@ fn move_lines<Q: Problem<Item = Cell>>(
 // What the check answers, with room for as many open calls as there are words.
 fn checked<P: Program, Q: Problem>(
     heap: Global,
-    program: &P,
-    problem: &Q,
+    on: &Analysis<P, Q>,
     words: &[u32],
 ) -> Result<Result<(), Fault>, AllocError>
-    ensures { IfOk result
-        (λ a. told a ≡ check_no (handed (P.meaning program.now) (Q.relation problem.now) (Q.count problem.now)) words.now (length words.now)) }
+    ensures { IfOk result (λ a. told a ≡ check_no (handed_by P.Program Q.Problem on.now) words.now (length words.now)) }
 {
     let mut calls = vec![in heap; Point(0); words.len()]?;
-    Ok(check_trail(program, problem, words, calls.as_mut_slice()))
+    Ok(check_trail(on, words, calls.as_mut_slice()))
 }
 
 // The words before the first that is no lawful move.
@@ -63,32 +61,25 @@ fn lawful_part(words: &[u32], answer: Result<(), Fault>) -> &[u32]
 {
     match answer {
         Ok(()) => words,
-        Err(fault) => {
-            let place = fault.place();
-            if place < words.len() {
-                &words[0..place]
-            } else {
-                words
-            }
-        }
+        Err(fault) => words.get(..fault.place()).unwrap_or(words),
     }
 }
 
 // Tells each lawful move of a trail in words, and whether it is a call-matched path or where it stops being one.
 pub fn review<P: Program, Q: Problem<Item = Cell>>(
     heap: Global,
-    program: &P,
-    problem: &Q,
+    on: &Analysis<P, Q>,
     words: &[u32],
 ) -> Result<String, AllocError>
     ensures { IfOk result
-        (λ s. string_bytes s ≡ reviewed (Q.stands problem.now) words.now
-        (check_no (handed (P.meaning program.now) (Q.relation problem.now) (Q.count problem.now)) words.now (length words.now))) }
+        (λ s. string_bytes s ≡ reviewed (Q.stands on.now.problem.now) words.now
+        (check_no (handed_by P.Program Q.Problem on.now) words.now (length words.now))) }
 {
-    let answer = checked(heap, program, problem, words)?;
-    let mut out = move_lines(heap, problem, lawful_part(words, answer))?;
-    let verdict = Verdict { answer };
-    let end = format!(in heap; "{verdict}\n")?;
-    out.push_str(end.as_str())?;
+    let answer = checked(heap, on, words)?;
+    let mut out = move_lines(heap, on.problem, lawful_part(words, answer))?;
+    match answer {
+        Ok(()) => writeln!(out, "a call-matched path")?,
+        Err(fault) => writeln!(out, "{fault}")?,
+    }
     Ok(out)
 }

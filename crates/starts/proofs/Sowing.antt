@@ -1,5 +1,5 @@
 -- One start after the other.
-use Rattle.std.proofs.Common.{◌≡◌, ℕ, zero, suc, ◌+◌, ◌<◌, List, [], ◌∷◌, take, drop, Some, None, Option, sym, refl, ap, ◌∙◌, arith}
+use Rattle.std.proofs.Common.{◌≡◌, ℕ, zero, suc, ◌+◌, ◌<◌, List, [], ◌∷◌, take, drop, Some, None, Option, sym, refl, ap, ◌∙◌, subst, arith}
 use Rattle.std.proofs.lemmas.List.{drop_all, length-take}
 use Rattle.std.specs.List.{slice_get}
 use Rattle.flow.specs.declared.interface.Start.{Start}
@@ -8,7 +8,8 @@ use Rattle.paths.specs.Does.{Handed, Answer, answer_by, one_if_new, Open, Sows, 
 use Rattle.paths.specs.Law.{accepted}
 use Rattle.paths.specs.Tabled.{Tabled, is_found, start_cell}
 use Rattle.paths.specs.Usage.{Standing}
-use Rattle.starts.specs.Sown.{start_no, accepted_by}
+use Rattle.table.specs.Told.{CountsStay}
+use Rattle.starts.specs.Sown.{start_no, sown_all, accepted_by, accepted_all, Carries}
 
 module _ (h : Handed) (s : Start) (t u : Tabled) (answer : Answer) (sows : Sows h s.procedure.0 s.fact.0 t answer u) where
   counted : (o : Option ℕ) (k : ℕ) (calls : List Call) → accepted (Sow h s.procedure.0 s.fact.0 (answer_by o k) ∷ calls) ≡ accepted_by o s (accepted calls)
@@ -38,3 +39,39 @@ front ss i k s l e = drop_nth (take k ss) i s (in_front ss i k l ∙ sym e)
 
 pub spent : (ss : List Start) (i k : ℕ) → None ≡ slice_get ss i → drop i (take k ss) ≡ []
 spent ss i k e = drop_all i (take k ss) (let n = nth_none ss i (sym e) in let m = length-take k ss in omega arith)
+
+-- while the starts ss are sown in a table: what those that are left make of it, and which starts a row of calls has accepted by then
+pub record Sowing (h : Handed) (ss : List Start) (first now : Tabled) (left : List Start) : Type 0 where
+  pub table : sown_all h left now ≡ sown_all h ss first
+  pub accepts : (opened : Tabled) (before : List (ℕ × ℕ)) → Standing h opened before (Open first)
+      → (by : List (ℕ × ℕ)) × Standing h opened by (Open now) × (accepted_all h left now by ≡ accepted_all h ss first before)
+  pub counts : CountsStay first now
+
+pub begun : (h : Handed) (ss : List Start) (t : Tabled) → Sowing h ss t t ss
+begun h ss t = record { table = refl; accepts = λ opened before st. (before, st, refl); counts = record { points = refl; facts = refl } }
+
+-- one start more
+pub sown_more : (h : Handed) (ss : List Start) (first t u : Tabled) (s : Start) (rest left : List Start) (answer : Answer) → Sowing h ss first t left → left ≡ s ∷ rest
+    → Sows h s.procedure.0 s.fact.0 t answer u → CountsStay t u → Sowing h ss first u rest
+sown_more h ss first t u s rest left answer w next sows same = record {
+  table = ap (sown_all h rest) sows.leaves ∙ sym (ap (λ (xs : List Start). sown_all h xs t) next) ∙ w.table;
+  accepts = λ opened before st.
+      let (by, here, is) = w.accepts opened before st in (
+        accepted_by (start_no h s t) s by,
+        stands h s t u answer sows opened by here,
+        ap (λ (x : Tabled). accepted_all h rest x (accepted_by (start_no h s t) s by)) sows.leaves ∙ sym (ap (λ (xs : List Start). accepted_all h xs t by) next) ∙ is,
+      );
+  counts = record { points = same.points ∙ w.counts.points; facts = same.facts ∙ w.counts.facts };
+}
+
+-- where none is left
+pub all_sown : (h : Handed) (ss : List Start) (first t : Tabled) (left : List Start) → Sowing h ss first t left → left ≡ []
+    → (t ≡ sown_all h ss first) × Carries h ss first t
+all_sown h ss first t left w none = (
+  sym (ap (λ (xs : List Start). sown_all h xs t) none) ∙ w.table,
+  record {
+    row = λ opened before st.
+        let (by, here, is) = w.accepts opened before st in
+        subst (λ (xs : List (ℕ × ℕ)). Standing h opened xs (Open t)) (sym (ap (λ (xs : List Start). accepted_all h xs t by) none) ∙ is) here;
+  },
+)

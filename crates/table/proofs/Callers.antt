@@ -23,6 +23,7 @@ use Rattle.paths.specs.Table.{number_of}
 use Rattle.paths.specs.Tabled.{Tabled, each, where_yes, caller_by}
 use Rattle.table.specs.Settling.{answers}
 use Rattle.table.specs.State.{cell_of}
+use Rattle.table.specs.declared.sites.ReturnSite.{ReturnSite}
 use Rattle.table.specs.declared.sites.Site.{Site}
 use Rattle.table.proofs.Turns.{turn, taken_yes}
 
@@ -119,6 +120,10 @@ module _ (m : Meaning) (Q : Rule) (F : ℕ) (V : Cell) (x : Site) (start : Table
   pub at_first : (o : Option Point) → o ≡ call_from cs callee 0 → Progress o start
   at_first o e = subst (λ (p : Option Point). Progress p start) (sym e) (onto cs 0 refl (omega arith) start refl)
 
+  -- from the exit to a call
+  abbrev pub return_to : Point → Statement Cell → ReturnSite
+  return_to a s = record { exit = x; caller = record { at = a; statement = s; result = V } }
+
   module _ (a : Point) (s : Statement Cell) (is : Some s ≡ statement_at m a) where
     control_is : slice_get cs a.0 ≡ Some (controlled s)
     control_is = nth_map controlled m.statements a.0 ∙ ap (option_map controlled) (sym is)
@@ -128,7 +133,7 @@ module _ (m : Meaning) (Q : Rule) (F : ℕ) (V : Cell) (x : Site) (start : Table
       called_by = ap (calls_at callee) (sym control_is) ∙ called
 
       -- the call that is reached is answered so
-      answered : x.cell ≡ number_of F (cell_of x.spot) → (t : Tabled) → answers Q F x V (record { at = a; statement = s }) t ≡ at_point a.0 t
+      answered : x.cell ≡ number_of F (cell_of x.spot) → (t : Tabled) → answers Q F (return_to a s) t ≡ at_point a.0 t
       answered number t =
           by_statement s called_by
           ∙ ap (λ (o : Option (Statement Cell)). caller_by (graph_of m) Q N F (shape o) V a.0 (cell_of x.spot) t) is
@@ -137,7 +142,7 @@ module _ (m : Meaning) (Q : Rule) (F : ℕ) (V : Cell) (x : Site) (start : Table
           no e = let z : ◌≡◌ {A = ℕ} 0 1 = cc in absurd (omega arith)
 
           by_statement : (s : Statement Cell) → calls callee (controlled s) ≡ true
-              → answers Q F x V (record { at = a; statement = s }) t ≡ caller_by (graph_of m) Q N F (shape (Some s)) V a.0 (cell_of x.spot) t
+              → answers Q F (return_to a s) t ≡ caller_by (graph_of m) Q N F (shape (Some s)) V a.0 (cell_of x.spot) t
           by_statement (Set D) e = no e
           by_statement (Move D S) e = no e
           by_statement (Add D S T) e = no e
@@ -146,7 +151,7 @@ module _ (m : Meaning) (Q : Rule) (F : ℕ) (V : Cell) (x : Site) (start : Table
           by_statement (Goto K) e = no e
           by_statement (Test S K) e = no e
           by_statement (Call D q S) e = taken_yes (eqb q.0 callee) _ t _ (sym e)
-              (ap (λ (k : ℕ). answers Q F (record { spot = x.spot; cell = k; statement = x.statement }) V (record { at = a; statement = Call D q S }) t) number)
+              (ap (λ (k : ℕ). answers Q F (record { exit = record { spot = x.spot; cell = k; statement = x.statement }; caller = record { at = a; statement = Call D q S; result = V } }) t) number)
           by_statement (Ret S) e = no e
           by_statement (Trim D S) e = no e
 
@@ -164,7 +169,7 @@ module _ (m : Meaning) (Q : Rule) (F : ℕ) (V : Cell) (x : Site) (start : Table
       inside = let w = nth_within cs a.0 (controlled s) control_is in let b = same_size in omega arith
 
       pub at_next : (t u : Tabled) → t ≡ each a.0 at_point start → x.cell ≡ number_of F (cell_of x.spot)
-          → u ≡ answers Q F x V (record { at = a; statement = s }) t → (o : Option Point) → o ≡ next_caller_of m a → Progress o u
+          → u ≡ answers Q F (return_to a s) t → (o : Option Point) → o ≡ next_caller_of m a → Progress o u
       at_next t u h number e o n =
           subst (λ (p : Option Point). Progress p u) (sym (n ∙ next_is))
           (onto (drop (a.0 + 1) cs) (a.0 + 1) refl (let i = inside in omega arith) u (turn at_point a.0 start t u h (e ∙ answered number t)))

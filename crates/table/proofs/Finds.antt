@@ -1,6 +1,6 @@
 -- What finding a cell does to the memory and the counters is what it does to the state.
-use Rattle.std.proofs.Common.{◌≡◌, ℕ, zero, suc, ◌+◌, ◌-◌, ◌<◌, ◌≤◌, true, false, List, map, length, set, sym, refl, ap, ◌∙◌, add-one, arith}
-use Rattle.std.proofs.lemmas.Bool.{ltb-true, ltb-false}
+use Rattle.std.proofs.Common.{◌≡◌, ℕ, zero, suc, ◌+◌, ◌-◌, ◌<◌, ◌≤◌, false, List, map, length, set, sym, refl, ap, ◌∙◌, add-one, arith}
+use Rattle.std.proofs.lemmas.Bool.{ltb-false}
 use Rattle.moves.specs.declared.moves.Kind.{Kind}
 use Rattle.moves.specs.Words.{code}
 use Rattle.paths.specs.Memory.{Rec}
@@ -20,12 +20,6 @@ rank_of rs points facts found head tail c = ap (λ (r : Rec). r.rank) (rec_at rs
 pub not_found : (rs : List Record) (points facts found head tail c : ℕ) → false ≡ is_found c (state_of rs points facts found head tail) → (at rs c).rank ≡ 0
 not_found rs points facts found head tail c e =
     let l = ltb-false 0 _ (sym e) in
-    let r = rank_of rs points facts found head tail c in
-    omega arith
-
-pub yes_found : (rs : List Record) (points facts found head tail c : ℕ) → true ≡ is_found c (state_of rs points facts found head tail) → 0 < (at rs c).rank
-yes_found rs points facts found head tail c e =
-    let l = ltb-true 0 _ (sym e) in
     let r = rank_of rs points facts found head tail c in
     omega arith
 

@@ -3,6 +3,7 @@ pub mod Sounds
 pub mod Finds
 pub mod Numbers
 pub mod Kept
+pub mod Leads
 pub mod Rows
 pub mod Turns
 pub mod Onward

@@ -1,10 +1,9 @@
 -- A table as it is opened.
-use Rattle.std.proofs.Common.{◌≡◌, ℕ, zero, suc, ◌+◌, ◌*◌, ◌<◌, ◌≤◌, true, false, leb, List, [], ◌∷◌, ◌++◌, map, length, get_or, take, drop, set, replicate, sym, refl, ap, ◌∙◌, mul-le-mul, mul-pos, arith}
+use Rattle.std.proofs.Common.{◌≡◌, ℕ, zero, suc, ◌*◌, ◌<◌, ◌≤◌, true, false, List, [], ◌∷◌, ◌++◌, map, length, take, drop, replicate, sym, refl, ap, ◌∙◌, mul-le-mul, mul-pos, arith}
 use mathlib.Core.List.{map-append}
-use Rattle.std.proofs.lemmas.List.{take_at, drop_more, drop-map, set_at, length-replicate, length-append, length-map, append_assoc, replicate_more, get_or_append_left, get_or-replicate}
-use Rattle.std.proofs.lemmas.Bool.{leb-true}
+use Rattle.std.proofs.lemmas.List.{take_at, drop-map, length-replicate, length-append, length-map, get_or_append_left, get_or-replicate}
 use Rattle.paths.proofs.Lawly.{exact_rows}
-use Rattle.paths.specs.Does.{Handed, room_for}
+use Rattle.paths.specs.Does.{Handed}
 use Rattle.paths.specs.Exactly.{ExactFrom}
 use Rattle.paths.specs.Law as law
 use Rattle.paths.specs.Memory as memory
@@ -14,14 +13,6 @@ use Rattle.table.specs.Records.{at, holders, leans_first, leans_second}
 use Rattle.table.specs.State.{rec, state_of}
 use Rattle.records.specs.declared.record.Record.{Record}
 use Rattle.table.proofs.Sounds.{Sound}
-
--- one more record of the front is cleared
-pub clear_more : {X : Type 0} (xs : List X) (i : ℕ) (y : X) → i < length xs → set (replicate i y ++ drop i xs) i y ≡ replicate (i + 1) y ++ drop (i + 1) xs
-clear_more xs i y h =
-    ap (λ (ys : List _). set (replicate i y ++ ys) i y) (drop_more xs i y h)
-    ∙ set_at (replicate i y) (get_or xs i y) (drop (i + 1) xs) y i (length-replicate i y)
-    ∙ sym (append_assoc (replicate i y) (y ∷ []) (drop (i + 1) xs))
-    ∙ ap (λ (ys : List _). ys ++ drop (i + 1) xs) (replicate_more i y)
 
 all_blank : (k : ℕ) → holders 0 (replicate k blank) ≡ k
 all_blank zero = refl
@@ -83,32 +74,25 @@ module _ (rs : List Record) (k : ℕ) (held : k ≤ length rs) where
       ∙ ap (λ (j : ℕ). replicate j memory.blank ++ drop j (map rec rs)) e in
       λ i. record { points = n; facts = f; records = r i; found = 0; settled = 0; waiting = [] }
 
--- the question, and the table that is made
-module _ (h : Handed) (n f k : ℕ) (points : n ≡ h.points) (facts : f ≡ h.facts) (cells : k ≡ n * f * f) (rs : List Record) where
-  size_is : k ≡ h.points * h.facts * h.facts
-  size_is = cells ∙ ap (λ (x : ℕ). x * f * f) points ∙ ap (λ (x : ℕ). h.points * x * x) facts
+-- the table that is made
+module _ (h : Handed) (n f k : ℕ) (points : n ≡ h.points) (facts : f ≡ h.facts) (cells : k ≡ h.points * h.facts * h.facts) where
+  pub size_of : k ≡ n * f * f
+  size_of = cells ∙ sym (ap (λ (x : ℕ). x * f * f) points ∙ ap (λ (x : ℕ). h.points * x * x) facts)
 
-  -- the memory has a record for each cell
-  pub has_size : room_for h (map rec rs) ≡ true → k ≤ length rs
-  has_size e = let l = leb-true _ _ e in let n = length-map rs rec in let s = size_is in omega arith
-
-  pub asks_size : leb k (length rs) ≡ room_for h (map rec rs)
-  asks_size = ap (λ (j : ℕ). leb j (length rs)) size_is ∙ ap (leb (h.points * h.facts * h.facts)) (sym (length-map rs rec))
-
-  module _ (held : k ≤ length rs) (new : List Record) (made : new ≡ replicate k blank ++ drop k rs) where
+  module _ (rs : List Record) (held : k ≤ length rs) (new : List Record) (made : new ≡ replicate k blank ++ drop k rs) where
     pub new_state : state_of new n f 0 0 0 ≡ newly_in h.points h.facts (map rec rs)
     new_state =
         ap (λ (ys : List Record). state_of ys n f 0 0 0) made
-        ∙ opened_state rs k held n f cells
+        ∙ opened_state rs k held n f size_of
         ∙ ap (λ (x : ℕ). newly_in x f (map rec rs)) points
         ∙ ap (λ (x : ℕ). newly_in h.points x (map rec rs)) facts
 
     pub new_memory : new ≡ replicate (h.points * h.facts * h.facts) blank ++ drop (h.points * h.facts * h.facts) rs
-    new_memory = made ∙ ap (λ (j : ℕ). replicate j blank ++ drop j rs) size_is
+    new_memory = made ∙ ap (λ (j : ℕ). replicate j blank ++ drop j rs) cells
 
     pub new_exact : law.Sound h → ExactFrom h (state_of new n f 0 0 0)
     new_exact sound = exact_rows h sound (state_of new n f 0 0 0) (record {
       memory = map rec rs;
-      room = (let e = length-map rs rec in let s = size_is in omega arith);
+      room = (let e = length-map rs rec in omega arith);
       cleared = new_state;
     })

@@ -7,7 +7,7 @@ use Rattle.paths.specs.declared.worklist.End.TheVariants.{Oldest, Newest}
 use Rattle.records.specs.Blank.{blank}
 use Rattle.table.specs.Records.{at}
 use Rattle.table.specs.State.{row, state_of}
-use Rattle.table.specs.Worklist.{taken_from, took_from, took}
+use Rattle.table.specs.Worklist.{place_of, head_of, tail_of, taken_from, took_from, took}
 use Rattle.records.specs.declared.record.Record.{Record}
 
 pub row_first : (rs : List Record) (head tail : ℕ) → head < tail → tail ≤ length rs → row rs head tail ≡ (at rs head).slot ∷ row rs (head + 1) tail
@@ -71,26 +71,39 @@ newest_took [] [] x t e = let z : ◌≡◌ {A = ℕ} 0 1 = cc in absurd (omega 
 newest_took [] (y ∷ xs) x t e = let z : ◌≡◌ {A = ℕ} 0 1 = cc in absurd (omega arith)
 newest_took (c ∷ cs) xs x t e = sym (ap (λ (z : ℕ × List ℕ). less t z.1) (newest_is xs x c cs e))
 
+pub in_row : (end : End) (head tail : ℕ) → head < tail → (head ≤ place_of end head tail) × (place_of end head tail < tail)
+in_row Oldest head tail h = (omega arith, h)
+in_row Newest head tail h = (omega arith, omega arith)
+
 module _ (rs : List Record) (points facts found head tail : ℕ) (h : head < tail) (pushed : tail ≤ found) (l : tail ≤ length rs) where
-  pub oldest : Some (at rs head).slot ≡ taken_from Oldest (row rs head tail)
+  oldest : Some (at rs head).slot ≡ taken_from Oldest (row rs head tail)
   oldest = oldest_value (row rs head tail) (row rs (head + 1) tail) (at rs head).slot (row_first rs head tail h l)
 
-  pub without_oldest : state_of rs points facts found (head + 1) tail ≡ took Oldest (state_of rs points facts found head tail)
+  without_oldest : state_of rs points facts found (head + 1) tail ≡ took Oldest (state_of rs points facts found head tail)
   without_oldest =
       let t : Tabled = state_of rs points facts found head tail in
       let settled : found - (tail - (head + 1)) ≡ suc (found - (tail - head)) = omega arith in
       ap (λ (k : ℕ). record { points = points; facts = facts; records = t.records; found = found; settled = k; waiting = row rs (head + 1) tail }) settled
       ∙ oldest_took (row rs head tail) (row rs (head + 1) tail) (at rs head).slot t (row_first rs head tail h l)
 
-  pub newest : Some (at rs (tail - 1)).slot ≡ taken_from Newest (row rs head tail)
+  newest : Some (at rs (tail - 1)).slot ≡ taken_from Newest (row rs head tail)
   newest = newest_value (row rs head tail) (row rs head (tail - 1)) (at rs (tail - 1)).slot (row_last rs head tail h l)
 
-  pub without_newest : state_of rs points facts found head (tail - 1) ≡ took Newest (state_of rs points facts found head tail)
+  without_newest : state_of rs points facts found head (tail - 1) ≡ took Newest (state_of rs points facts found head tail)
   without_newest =
       let t : Tabled = state_of rs points facts found head tail in
       let settled : found - (tail - 1 - head) ≡ suc (found - (tail - head)) = omega arith in
       ap (λ (k : ℕ). record { points = points; facts = facts; records = t.records; found = found; settled = k; waiting = row rs head (tail - 1) }) settled
       ∙ newest_took (row rs head tail) (row rs head (tail - 1)) (at rs (tail - 1)).slot t (row_last rs head tail h l)
+
+  -- the place of the cell that is taken, and the row's ends without it
+  pub value_at : (end : End) → Some (at rs (place_of end head tail)).slot ≡ taken_from end (row rs head tail)
+  value_at Oldest = oldest
+  value_at Newest = newest
+
+  pub without : (end : End) → state_of rs points facts found (head_of end head) (tail_of end tail) ≡ took end (state_of rs points facts found head tail)
+  without Oldest = without_oldest
+  without Newest = without_newest
 
 pub took_none : (end : End) (rs : List Record) (points facts found head tail : ℕ) → head ≡ tail
     → state_of rs points facts found head tail ≡ took end (state_of rs points facts found head tail)

@@ -24,6 +24,7 @@ use Rattle.paths.specs.Table.{cell, number_of}
 use Rattle.paths.specs.Tabled.{Tabled, cell_at, find, is_found, each, where_yes, return_by, settle_by, settle}
 use Rattle.table.specs.Settling.{Callable, Called, Onward, steps, passes, all_enter}
 use Rattle.table.specs.State.{cell_of}
+use Rattle.table.specs.declared.sites.CallSite.{CallSite}
 use Rattle.table.specs.declared.sites.Callee.{Callee}
 use Rattle.table.specs.declared.sites.Site.{Site}
 use Rattle.table.specs.declared.sites.Spot.{Spot}
@@ -44,6 +45,9 @@ module _ (m : Meaning) (Q : Rule) (F : ℕ) where
   -- the site of a spot
   abbrev site : Spot → Statement Cell → Site
   site spot s = record { spot = spot; cell = number_of F (cell_of spot); statement = s }
+
+  abbrev calling_to : Site → Callee → CallSite
+  calling_to x callee = record { site = x; callee = callee }
 
   module _ (x : Site) (number : x.cell ≡ number_of F (cell_of x.spot)) where
     sited : x ≡ site x.spot x.statement
@@ -77,13 +81,13 @@ module _ (m : Meaning) (Q : Rule) (F : ℕ) where
           (find kind.Call (number_of F (cell_of x.spot)) 0 (number_of F (cell E e e)) t)))
 
       pub call : (callee : Callee) → Called m q callee → (t : Tabled)
-          → all_enter Q F x callee (passes Q F x t) ≡ settle_by P Q N F (calling D q S) (cell_of x.spot) t
+          → all_enter Q F (calling_to x callee) (passes Q F (calling_to x callee) t) ≡ settle_by P Q N F (calling D q S) (cell_of x.spot) t
       call callee is-called t =
           let y : Site = site x.spot (Call D q S) in
           let at_exit : Some (Ret callee.result) ≡ P.at (P.exit q.0) =
           sym is-called.result ∙ ap (λ (k : ℕ). P.at k) is-called.exit in
-          let u : Tabled = passes Q F y t in
-          ap (λ (z : Site). all_enter Q F z callee (passes Q F z t)) calling_site
+          let u : Tabled = passes Q F (calling_to y callee) t in
+          ap (λ (z : Site). all_enter Q F (calling_to z callee) (passes Q F (calling_to z callee) t)) calling_site
           ∙ ap (λ (E : ℕ). into E callee.exit.0 (Some (Ret callee.result)) u) is-called.entry
           ∙ ap (λ (X : ℕ). into (P.entry q.0) X (Some (Ret callee.result)) u) is-called.exit
           ∙ ap (λ (o : Option (Statement Cell)). into (P.entry q.0) (P.exit q.0) o u) at_exit

@@ -1,4 +1,5 @@
 pub mod Records
+pub mod Leads
 pub mod State
 pub mod Worklist
 pub mod Settling

@@ -10,16 +10,18 @@ use Rattle.listing.specs.declared.statement.Statement.{Statement}
 use Rattle.flow.specs.declared.edge.Edge.{Edge}
 use Rattle.flow.specs.declared.edge.Edge.TheVariants as edge
 use Rattle.flow.specs.Relation.{Rule}
-use Rattle.moves.specs.declared.moves.Kind.{Kind}
 use Rattle.moves.specs.declared.moves.Kind.TheVariants as kind
 use Rattle.paths.specs.Machine.{both}
 use Rattle.paths.specs.Supergraph.{successors, Follows}
 use Rattle.paths.specs.Table.{cell, number_of}
 use Rattle.paths.specs.Tabled.{Tabled, find, is_found, each, each_of, where_yes}
+use Rattle.table.specs.Leads.{kind_of, first_of, second_of}
 use Rattle.table.specs.State.{cell_of, Inside, Found}
 use Rattle.table.specs.declared.sites.Callee.{Callee}
-use Rattle.table.specs.declared.sites.Caller.{Caller}
+use Rattle.table.specs.declared.sites.CallSite.{CallSite}
 use Rattle.table.specs.declared.sites.Lead.{Lead}
+use Rattle.table.specs.declared.sites.Lead.TheVariants as lead
+use Rattle.table.specs.declared.sites.ReturnSite.{ReturnSite}
 use Rattle.table.specs.declared.sites.Site.{Site}
 use Rattle.table.specs.declared.state.Core.{Core}
 
@@ -61,22 +63,30 @@ abbrev pub Calls : Meaning → Proc → Option Callee → Type 0
 Calls m p None = procs m ≤ p.0
 Calls m p (Some q) = Called m p q
 
--- a move from one cell
-abbrev pub lead : Kind → ℕ → Lead
-lead k u = record { kind = k; first = u; second = 0 }
+-- a call stands in the table: so does its site, a point follows it, and its callee is of the table
+pub record CallStands (t : Core) (x : CallSite) : Type 0 where
+  pub site : Stands t x.site
+  pub next : x.site.spot.point.0 + 1 < t.points
+  pub callee : Callable t.points x.callee
 
--- a return: from a call's cell and a cell of the callee's exit
-abbrev pub returning : ℕ → ℕ → Lead
-returning u v = record { kind = kind.Return; first = u; second = v }
+-- and its callee is entered with a fact of the table
+pub record EntryStands (t : Core) (x : CallSite) (e : ℕ) : Type 0 where
+  pub call : CallStands t x
+  pub fact : e < t.facts
+
+-- an exit and a call stand in the table: so does the exit's site, and a point follows the call
+pub record ReturnStands (t : Core) (x : ReturnSite) : Type 0 where
+  pub exit : Stands t x.exit
+  pub next : x.caller.at.0 + 1 < t.points
 
 -- the cell of the callee's entry with the fact e is found from the call x
-abbrev pub finds_entry : ℕ → Site → Callee → ℕ → Tabled → Tabled
-finds_entry F x q e = find kind.Call x.cell 0 (number_of F (cell q.entry.0 e e))
+abbrev pub finds_entry : ℕ → CallSite → ℕ → Tabled → Tabled
+finds_entry F x e = find kind.Call x.site.cell 0 (number_of F (cell x.callee.entry.0 e e))
 
 module _ (Q : Rule) (F : ℕ) where
   -- over the edge x from fact d: the cell of point m and fact e, under the origin a, where e follows
   abbrev pub spread_fact : Edge → ℕ → Lead → ℕ → ℕ → ℕ → Tabled → Tabled
-  spread_fact x d by m a e = where_yes (Q x d e) (find by.kind by.first by.second (number_of F (cell m a e)))
+  spread_fact x d by m a e = where_yes (Q x d e) (find (kind_of by) (first_of by) (second_of by) (number_of F (cell m a e)))
 
   -- the cells of every fact that follows
   abbrev pub spread : Edge → ℕ → Lead → ℕ → ℕ → Tabled → Tabled
@@ -84,43 +94,42 @@ module _ (Q : Rule) (F : ℕ) where
 
   -- from a site to one successor, and to all
   abbrev pub step_to : Site → ℕ → Tabled → Tabled
-  step_to x m = spread (edge.Step x.spot.point x.statement) x.spot.fact.0 (lead kind.Step x.cell) m x.spot.origin.0
+  step_to x m = spread (edge.Step x.spot.point x.statement) x.spot.fact.0 (lead.Step x.cell) m x.spot.origin.0
 
   abbrev pub steps : Site → Tabled → Tabled
   steps x = each_of (successors x.spot.point.0 x.statement) (step_to x)
 
   -- past a call
-  abbrev pub passes : Site → Tabled → Tabled
-  passes x = spread (edge.Past x.spot.point x.statement) x.spot.fact.0 (lead kind.Past x.cell) (x.spot.point.0 + 1) x.spot.origin.0
+  abbrev pub passes : CallSite → Tabled → Tabled
+  passes x = spread (edge.Past x.site.spot.point x.site.statement) x.site.spot.fact.0 (lead.Past x.site.cell) (x.site.spot.point.0 + 1) x.site.spot.origin.0
 
   -- back to a call from the cell (exit, e, z) of its callee, where that is found; and from those of every z
-  abbrev pub comes_back : Site → Callee → ℕ → ℕ → Tabled → Tabled
-  comes_back x q e z t = where_yes (is_found (number_of F (cell q.exit.0 e z)) t)
-      (spread (edge.Return x.spot.point x.statement q.result) z (returning x.cell (number_of F (cell q.exit.0 e z))) (x.spot.point.0 + 1) x.spot.origin.0) t
+  abbrev pub comes_back : CallSite → ℕ → ℕ → Tabled → Tabled
+  comes_back x e z t = where_yes (is_found (number_of F (cell x.callee.exit.0 e z)) t)
+      (spread (edge.Return x.site.spot.point x.site.statement x.callee.result) z (lead.Return x.site.cell (number_of F (cell x.callee.exit.0 e z))) (x.site.spot.point.0 + 1) x.site.spot.origin.0) t
 
-  abbrev pub all_come_back : Site → Callee → ℕ → Tabled → Tabled
-  all_come_back x q e = each F (comes_back x q e)
+  abbrev pub all_come_back : CallSite → ℕ → Tabled → Tabled
+  all_come_back x e = each F (comes_back x e)
 
   -- into the callee with the fact e, and at once back from where the callee has got with it
-  abbrev pub enters_at : Site → Callee → ℕ → Tabled → Tabled
-  enters_at x q e t = all_come_back x q e (finds_entry F x q e t)
+  abbrev pub enters_at : CallSite → ℕ → Tabled → Tabled
+  enters_at x e t = all_come_back x e (finds_entry F x e t)
 
   -- the same where the fact follows; and with every fact
-  abbrev pub enters : Site → Callee → ℕ → Tabled → Tabled
-  enters x q e = where_yes (Q (edge.Call x.spot.point x.statement) x.spot.fact.0 e)
-      (enters_at x q e)
+  abbrev pub enters : CallSite → ℕ → Tabled → Tabled
+  enters x e = where_yes (Q (edge.Call x.site.spot.point x.site.statement) x.site.spot.fact.0 e) (enters_at x e)
 
-  abbrev pub all_enter : Site → Callee → Tabled → Tabled
-  all_enter x q = each F (enters x q)
+  abbrev pub all_enter : CallSite → Tabled → Tabled
+  all_enter x = each F (enters x)
 
-  -- from the exit cell x, which returns the cell V, to the call c: to its cell (c, b, f), where that is found and x's origin follows from f;
-  -- to those of every f, and of every b
-  abbrev pub answers_cell : Site → Cell → Caller → ℕ → ℕ → Tabled → Tabled
-  answers_cell x V c b f t = where_yes (both (is_found (number_of F (cell c.at.0 b f)) t) (Q (edge.Call c.at c.statement) f x.spot.origin.0))
-      (spread (edge.Return c.at c.statement V) x.spot.fact.0 (returning (number_of F (cell c.at.0 b f)) x.cell) (c.at.0 + 1) b) t
+  -- from an exit cell to a call: to its cell (at, b, f), where that is found and the exit's origin follows from f; to those of every f, and
+  -- of every b
+  abbrev pub answers_cell : ReturnSite → ℕ → ℕ → Tabled → Tabled
+  answers_cell x b f t = where_yes (both (is_found (number_of F (cell x.caller.at.0 b f)) t) (Q (edge.Call x.caller.at x.caller.statement) f x.exit.spot.origin.0))
+      (spread (edge.Return x.caller.at x.caller.statement x.caller.result) x.exit.spot.fact.0 (lead.Return (number_of F (cell x.caller.at.0 b f)) x.exit.cell) (x.caller.at.0 + 1) b) t
 
-  abbrev pub answers_row : Site → Cell → Caller → ℕ → Tabled → Tabled
-  answers_row x V c b = each F (answers_cell x V c b)
+  abbrev pub answers_row : ReturnSite → ℕ → Tabled → Tabled
+  answers_row x b = each F (answers_cell x b)
 
-  abbrev pub answers : Site → Cell → Caller → Tabled → Tabled
-  answers x V c = each F (answers_row x V c)
+  abbrev pub answers : ReturnSite → Tabled → Tabled
+  answers x = each F (answers_row x)

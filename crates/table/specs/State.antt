@@ -1,16 +1,21 @@
 -- The state of a table, as its calls' definitions speak of it.
-use Rattle.std.specs.Prelude.{◌≡◌, ℕ, ◌-◌, ◌<◌, true, List, map, take, drop, Some, None, vec_items, Option}
+use Rattle.std.specs.Prelude.{true, false, ◌≡◌, ℕ, ◌-◌, ◌<◌, List, map, take, drop, Some, None, vec_items, Option}
 use Rattle.moves.specs.declared.moves.Kind.{Kind}
 use Rattle.moves.specs.Words.{code}
+use Rattle.paths.specs.Does.{Handed}
 use Rattle.paths.specs.Table.{TableCell, cell}
 use Rattle.paths.specs.Memory.{Rec}
 use Rattle.paths.specs.Tabled.{Tabled}
-use Rattle.table.specs.Records.{at, leans_first, leans_second}
+use Rattle.table.specs.Records.{at}
 use Rattle.table.specs.declared.sites.Lead.{Lead}
+use Rattle.table.specs.declared.sites.Lead.TheVariants.{Start, Step, Past, Call, Return}
 use Rattle.records.specs.declared.record.Record.{Record}
 use Rattle.table.specs.declared.sites.Spot.{Spot}
 use Rattle.table.specs.declared.state.Core.{Core}
 use Rattle.table.specs.declared.state.Staged.{Staged}
+use Rattle.table.specs.declared.state.Stage.{Ghosts as Stage}
+use Rattle.table.specs.declared.state.Open.{Open}
+use Rattle.table.specs.declared.state.Closed.{Closed}
 
 -- the number of a kind, 0 where there is none
 abbrev pub code_in : Option Kind → ℕ
@@ -38,8 +43,21 @@ state_of rs points facts found head tail = record {
 abbrev pub inner : Core → Tabled
 inner t = state_of (vec_items t.records) t.points t.facts t.found t.head t.tail
 
+-- the stages of a table
+abbrev pub is_open : Stage Open
+is_open = record { closed = false }
+
+abbrev pub is_closed : Stage Closed
+is_closed = record { closed = true }
+
+abbrev pub OpenTable : Type 0
+OpenTable = Staged Open is_open
+
+abbrev pub ClosedTable : Type 0
+ClosedTable = Staged Closed is_closed
+
 -- the state of a table
-abbrev pub state : {S : ℕ} → Staged S → Tabled
+abbrev pub state : {S : Type 0} {stage : Stage S} → Staged S stage → Tabled
 state t = inner t.core
 
 -- the memory behind the records of the cells
@@ -61,12 +79,13 @@ pub record Found (t : Core) (c : ℕ) : Type 0 where
   pub within : c < t.size
   pub ranked : 0 < (at (vec_items t.records) c).rank
 
--- the cells that a move comes from are the table's, and found
-pub record Led (t : Core) (by : Lead) : Type 0 where
-  pub first : by.first < t.size
-  pub second : by.second < t.size
-  pub first_found : leans_first (Some by.kind) ≡ true → 0 < (at (vec_items t.records) by.first).rank
-  pub second_found : leans_second (Some by.kind) ≡ true → 0 < (at (vec_items t.records) by.second).rank
+-- the cells that a move comes from are found
+abbrev pub Led : Core → Lead → Type 0
+Led t Start = Unit {0}
+Led t (Step u) = Found t u
+Led t (Past u) = Found t u
+Led t (Call u) = Found t u
+Led t (Return u v) = Found t u × Found t v
 
 -- what finding keeps: the counts, the number settled, the memory behind the cells, and that what is found stays found
 pub record Kept (s t : Core) : Type 0 where
@@ -84,7 +103,7 @@ pub record Moved (s t : Core) : Type 0 where
   pub facts : t.facts ≡ s.facts
   pub size : t.size ≡ s.size
 
--- the table has so many points and facts
-pub record SameCounts (t : Core) (points facts : ℕ) : Type 0 where
-  pub same_points : t.points ≡ points
-  pub same_facts : t.facts ≡ facts
+-- the table has the points and the facts that are handed in
+pub record Serves (h : Handed) (t : Core) : Type 0 where
+  pub points : t.points ≡ h.points
+  pub facts : t.facts ≡ h.facts

@@ -7,12 +7,11 @@ use Rattle.paths.specs.Tabled.{Tabled, newly_in, work}
 use Rattle.paths.specs.declared.worklist.End.{End}
 use Rattle.records.specs.Faults.{number_of}
 use Rattle.records.specs.Blank.{blank}
-use Rattle.table.specs.State.{rec, inner, state}
+use Rattle.table.specs.State.{rec, inner, state, OpenTable, ClosedTable}
 use Rattle.records.specs.declared.fault.Fault.{Fault}
 use Rattle.records.specs.declared.fault.Refusal.{Refusal}
 use Rattle.records.specs.declared.record.Record.{Record}
 use Rattle.table.specs.declared.state.Core.{Core}
-use Rattle.table.specs.declared.state.Staged.{Staged}
 use Rattle.records.specs.declared.tallies.Tallies.{Tallies}
 
 -- the answer of sow: 1 where the cell is new, else 0
@@ -52,7 +51,7 @@ pub record NewlyMade (h : Handed) (memory : Memory) (c : Core) : Type 0 where
   pub exact : ExactFrom h (inner c)
 
 -- open gives such a table; or it refuses, and gives the memory back as it was
-pub record Opened (h : Handed) (memory : Memory) (t : Staged 0) : Type 0 where
+pub record Opened (h : Handed) (memory : Memory) (t : OpenTable) : Type 0 where
   pub answers : open_answer h (map rec (vec_items memory)) ≡ gives 0
   pub made : NewlyMade h memory t.core
 
@@ -60,21 +59,21 @@ pub record NotOpened (h : Handed) (memory : Memory) (e : Refusal Memory) : Type 
   pub answers : open_answer h (map rec (vec_items memory)) ≡ refuses (number_of e.fault)
   pub back : e.back ≡ memory
 
-abbrev pub Opens : Handed → Memory → Result (Staged 0) (Refusal Memory) → Type 0
+abbrev pub Opens : Handed → Memory → Result OpenTable (Refusal Memory) → Type 0
 Opens h memory (Ok t) = Opened h memory t
 Opens h memory (Err e) = NotOpened h memory e
 
 -- the answer of close, and the state that it leaves
-abbrev pub closed : Result (Staged 1) (Refusal (Staged 0)) → Answer
+abbrev pub closed : Result ClosedTable (Refusal OpenTable) → Answer
 closed (Ok t) = gives 0
 closed (Err e) = refuses (number_of e.fault)
 
-abbrev pub left_closed : Result (Staged 1) (Refusal (Staged 0)) → State
+abbrev pub left_closed : Result ClosedTable (Refusal OpenTable) → State
 left_closed (Ok t) = Closed (state t)
 left_closed (Err e) = Open (state e.back)
 
 -- either way the table is as it was
-abbrev pub SameCore : Core → Result (Staged 1) (Refusal (Staged 0)) → Type 0
+abbrev pub SameCore : Core → Result ClosedTable (Refusal OpenTable) → Type 0
 SameCore c (Ok t) = t.core ≡ c
 SameCore c (Err e) = e.back.core ≡ c
 

@@ -1,7 +1,8 @@
 -- Taking a cell out of the row of those that wait.
-use Rattle.std.specs.Prelude.{ℕ, suc, List, [], ◌∷◌, Some, None, Option}
+use Rattle.std.specs.Prelude.{ℕ, ◌+◌, ◌-◌, suc, List, [], ◌∷◌, Some, None, Option}
 use Rattle.paths.specs.Tabled.{Tabled, taken}
 use Rattle.paths.specs.declared.worklist.End.{End}
+use Rattle.paths.specs.declared.worklist.End.TheVariants.{Oldest, Newest}
 
 -- the cell at an end of the row, if one waits
 abbrev pub taken_from : End → List ℕ → Option ℕ
@@ -22,3 +23,16 @@ took_from end (c ∷ cs) t = record {
 
 abbrev pub took : End → Tabled → Tabled
 took end t = took_from end t.waiting t
+
+-- the place of the cell at an end of the row, and the row's head and tail without it
+abbrev pub place_of : End → ℕ → ℕ → ℕ
+place_of Oldest head tail = head
+place_of Newest head tail = tail - 1
+
+abbrev pub head_of : End → ℕ → ℕ
+head_of Oldest head = head + 1
+head_of Newest head = head
+
+abbrev pub tail_of : End → ℕ → ℕ
+tail_of Oldest tail = tail
+tail_of Newest tail = tail - 1

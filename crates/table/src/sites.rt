@@ -1,4 +1,8 @@
 // The parts that settling hands on.
+ghost use Rattle.std.specs.Prelude.{◌≡◌};
+ghost use Rattle.table.specs.Leads.{kind_of, first_of, second_of};
+
+use flow::edge::Edge;
 use listing::numbers::{Cell, Fact, Point};
 use listing::statement::Statement;
 use moves::moves::Kind;
@@ -11,12 +15,58 @@ pub(crate) struct Spot {
     pub fact: Fact,
 }
 
-// A move to a cell: its kind, and the cells from which it comes.
+// A move to a cell, with the numbers of the cells from which it comes. A number is a plain u32, as a record, whose format is a rule, keeps
+// it; that it is below a table's size is a fact of that table too, and none of the number alone.
 #[derive(Clone, Copy)]
-pub(crate) struct Lead {
-    pub kind: Kind,
-    pub first: u32,
-    pub second: u32,
+pub(crate) enum Lead {
+    Start,
+    Step { from: u32 },
+    Past { from: u32 },
+    Call { from: u32 },
+    Return { call: u32, exit: u32 },
+}
+
+impl Lead {
+    pub fn kind(self) -> Kind
+        ensures { result ≡ kind_of self }
+    {
+        match self {
+            Lead::Start => Kind::Start,
+            Lead::Step { .. } => Kind::Step,
+            Lead::Past { .. } => Kind::Past,
+            Lead::Call { .. } => Kind::Call,
+            Lead::Return { .. } => Kind::Return,
+        }
+    }
+
+    // The first cell as a record keeps it: 0 where there is none.
+    pub fn first(self) -> u32
+        ensures { result ≡ first_of self }
+    {
+        match self {
+            Lead::Start => 0,
+            Lead::Step { from } | Lead::Past { from } | Lead::Call { from } => from,
+            Lead::Return { call, .. } => call,
+        }
+    }
+
+    // The second cell as a record keeps it: 0 where there is none.
+    pub fn second(self) -> u32
+        ensures { result ≡ second_of self }
+    {
+        match self {
+            Lead::Return { exit, .. } => exit,
+            _ => 0,
+        }
+    }
+}
+
+// A fact that crosses an edge, and the move by which what follows from it is found.
+#[derive(Clone, Copy)]
+pub(crate) struct Crossing {
+    pub edge: Edge,
+    pub from: Fact,
+    pub by: Lead,
 }
 
 // A cell that is being settled, with its number and the statement at its point.
@@ -35,9 +85,24 @@ pub(crate) struct Callee {
     pub result: Cell,
 }
 
-// A call to which a procedure returns.
+// A call that is being settled.
+#[derive(Clone, Copy)]
+pub(crate) struct CallSite {
+    pub site: Site,
+    pub callee: Callee,
+}
+
+// A call to which a procedure returns, and the cell that is returned.
 #[derive(Clone, Copy)]
 pub(crate) struct Caller {
     pub at: Point,
     pub statement: Statement<Cell>,
+    pub result: Cell,
+}
+
+// A procedure's exit that is being settled, and a call to which it returns.
+#[derive(Clone, Copy)]
+pub(crate) struct ReturnSite {
+    pub exit: Site,
+    pub caller: Caller,
 }

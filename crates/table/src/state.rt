@@ -1,8 +1,9 @@
 // The table at its stages, open and closed. It owns the memory of its records.
-ghost use Rattle.std.specs.Prelude.{◌≡◌, ℕ, ◌+◌, ◌*◌, ◌<◌, ◌≤◌, true, length, take};
+ghost use Rattle.std.specs.Prelude.{◌≡◌, Bool, false, ℕ, ◌+◌, ◌*◌, ◌<◌, ◌≤◌, true, length, take};
 ghost use Rattle.table.specs.Records.{at, holders, leans_first, leans_second};
 
 use records::record::Record;
+use std::marker::PhantomData;
 
 mod calls;
 mod finding;
@@ -17,7 +18,8 @@ mod worklist;
 pub use self::opening::records_for;
 
 // What the stages share: a record for each cell, how many are found, and the row of those that wait, whose numbers lie in the
-// slots from `head` to `tail`, the oldest first.
+// slots from `head` to `tail`, the oldest first. The row is no `VecDeque`: a table has the one memory that it is handed, and its calls
+// allocate nothing.
 #[derive(Drop)]
 pub struct Core {
     records: Vec<Record>,
@@ -52,17 +54,33 @@ pub struct Core {
     ghost waits: { (k : ℕ) → head ≤ k → k < tail → 0 < (at records.items (at records.items k).slot).rank },
 }
 
-pub const OPEN: u8 = 0;
+// Whether a table is closed, as its type says.
+pub trait Stage {
+    ghost closed: { Bool };
+}
 
-pub const CLOSED: u8 = 1;
+#[derive(Clone, Copy)]
+pub struct Open;
+
+impl Stage for Open {
+    ghost closed = { false };
+}
+
+#[derive(Clone, Copy)]
+pub struct Closed;
+
+impl Stage for Closed {
+    ghost closed = { true };
+}
 
 // A table at a stage: open, or closed, where nothing waits.
 #[derive(Drop)]
-pub struct Staged<const STAGE: u8> {
+pub struct Staged<S: Stage> {
     core: Core,
-    ghost settled: { STAGE ≡ 1 → core.head ≡ core.tail },
+    stage: PhantomData<S>,
+    ghost settled: { S.closed ≡ true → core.head ≡ core.tail },
 }
 
-pub type OpenTable = Staged<OPEN>;
+pub type OpenTable = Staged<Open>;
 
-pub type ClosedTable = Staged<CLOSED>;
+pub type ClosedTable = Staged<Closed>;

@@ -1,56 +1,48 @@
 // Tabulates each of 100 listings in portions.
 #![tactic(auto)]
 
-use anyhow::anyhow;
+use anyhow::Context;
 use flow::choice::Choice;
 use paths::worklist::End;
-use progress::portion::Portion;
-use progress::told::tabulate_listing;
+use progress::portion::{Pace, Portion};
+use progress::told::{Tabulation, tabulate_listing};
 use std::fs;
+use text::input::take_listing;
 
-// What a run asks for: the problem, the number of cells in a portion, and the end of the row.
-#[derive(Drop)]
-struct Run {
-    choice: Choice,
-    size: u32,
-    end: End,
-}
-
-fn run_of(lines: &str) -> anyhow::Result<Run> {
-    let mut run = Run {
-        choice: Choice::Unset,
-        size: 0,
-        end: End::Oldest,
+// What a run asks for, a line each: the problem, the number of cells in a portion, and the end of the row.
+fn tabulation_of(text: &str) -> anyhow::Result<Tabulation> {
+    let mut lines = text.lines();
+    let choice = lines.next().and_then(|line| line.parse().ok());
+    let size = lines
+        .next()
+        .context("a run names no portion")?
+        .parse::<u32>()?;
+    let portion = Portion::new(size).context("a run names no portion")?;
+    let from = if lines.any(|line| line == "newest") {
+        End::Newest
+    } else {
+        End::Oldest
     };
-    for (place, line) in lines.lines().enumerate() {
-        if place == 0 {
-            if let Some(choice) = Choice::named(line) {
-                run.choice = choice;
-            }
-        } else if place == 1 {
-            run.size = line.parse::<u32>()?;
-        } else if line == "newest" {
-            run.end = End::Newest;
-        }
-    }
-    Ok(run)
+    Ok(Tabulation {
+        choice: choice.unwrap_or(Choice::Unset),
+        pace: Pace { portion, from },
+    })
 }
 
 fn tell(rt: &HostRuntime, n: u8) -> anyhow::Result<()> {
     let name = format!(in rt.alloc(); "{n:03}")?;
     let listing = format!(in rt.alloc(); "{name}.txt")?;
-    let bytes = fs::read(rt, listing.as_str())?;
-    let file = format!(in rt.alloc(); "{name}.run")?;
-    let lines = fs::read_to_string(rt, file.as_str())?;
-    let run = run_of(lines.as_str())?;
-    let Some(portion) = Portion::new(run.size) else {
-        return Err(anyhow!("a run names no portion"));
-    };
-    let told = tabulate_listing(rt.alloc(), bytes.as_slice(), run.choice, portion, run.end)?;
+    let bytes = take_listing(rt.alloc(), fs::open(rt, listing.as_str())?)?;
+    let run = format!(in rt.alloc(); "{name}.run")?;
+    let run = fs::read_to_string(rt, run.as_str())?;
+    let tabulation = tabulation_of(run.as_str())?;
+    let told = tabulate_listing(rt.alloc(), bytes.as_slice(), tabulation)?;
     print!(rt; "{name}\n{told}")?;
     Ok(())
 }
 
+// The files are numbered. A loop shared with the other such programs would take the step as a closure and ask that it may be called, and no public function asks
+// anything; nor can a contract say what a file holds.
 fn main(rt: HostRuntime) -> anyhow::Result<()> {
     for n in 1..=100 {
         tell(&rt, n)?;

@@ -3,6 +3,7 @@ use Rattle.std.proofs.Common.{◌≡◌, ℕ, ◌+◌, Bool, true, false, cond, 
 use Rattle.std.specs.Option.{option_map}
 use Rattle.std.proofs.lemmas.Bool.{and_from, not-true, lt-ltb, ltb-true}
 use Rattle.listing.specs.Lawful.{each, owns}
+use Rattle.text.specs.Mapped.{both, all_three}
 use Rattle.listing.specs.Statements.{controlled, cells_of}
 use Rattle.listing.specs.declared.numbers.Cell.{Cell}
 use Rattle.listing.specs.declared.statement.Statement.{Statement}
@@ -11,11 +12,10 @@ use Rattle.draft.specs.Rules.{unended, crowded, foreign, astray, missing, or_els
 use Rattle.draft.specs.declared.question.Question.{Question}
 use Rattle.draft.specs.declared.question.Refusal.{Refusal}
 use Rattle.draft.specs.declared.question.Breach.{Breach}
-use Rattle.grammar.specs.Grammar.{then}
 use Rattle.grammar.specs.declared.name.Name.{Name}
 use Rattle.grammar.specs.declared.name.Name.TheVariants.{Global, Local}
-use Rattle.grammar.proofs.Prints.{mapped_some, pair_some}
-use Rattle.text.specs.Cells.{cell_of, two_of, numbered}
+use Rattle.grammar.proofs.Prints.{mapped_some}
+use Rattle.text.specs.Cells.{cell_of, numbered}
 use Rattle.text.specs.Reading.{flow_of, owned_of, outsized, misformed, unranged, miscounted, on_line, or_next, refused, accepted}
 use Rattle.text.proofs.Written.{none_from}
 
@@ -61,6 +61,10 @@ below_some : {A : Type 0} (b : Bool) (x y : A) → cond b (Some x) None ≡ Some
 below_some true x y h = (refl, cc)
 below_some false x y h = let z : ◌≡◌ {A = ℕ} 0 1 = cc in absurd (omega arith)
 
+both_some : {A B C : Type 0} (f : A → B → C) (x : Option A) (y : Option B) (r : C) → both f x y ≡ Some r → (a : A) × (b : B) × (x ≡ Some a) × (y ≡ Some b) × (f a b ≡ r)
+both_some f None y r h = let z : ◌≡◌ {A = ℕ} 0 1 = cc in absurd (omega arith)
+both_some f (Some a) y r h = let m = mapped_some (f a) y r h in (a, m.0, refl, m.1, m.2)
+
 module _ (g l : ℕ) where
   own_cell : (x : Name) (c : Cell) → cell_of g l x ≡ Some c → ltb c.0 (g + l) ≡ true
   own_cell (Global i) c h =
@@ -83,33 +87,28 @@ module _ (g l : ℕ) where
       subst (λ (z : Statement Cell). KeptBy s z) m.2
       (same m.0, ap (each (λ c. ltb c.0 (g + l))) (names m.0) ∙ and_from _ true (own_cell x m.0 m.1) refl)
 
-  two_own : (x y : Name) (q : Cell × Cell) → two_of g l x y ≡ Some q → (ltb q.0.0 (g + l) ≡ true) × (ltb q.1.0 (g + l) ≡ true)
-  two_own x y q h = let p = pair_some (cell_of g l x) (cell_of g l y) q h in (own_cell x q.0 p.0, own_cell y q.1 p.1)
-
-  two_kept : (make : Cell × Cell → Statement Cell) (s : Statement Name) → ((q : Cell × Cell) → controlled (make q) ≡ controlled s) → ((q : Cell × Cell) → cells_of (make q) ≡ q.0 ∷ q.1 ∷ [])
-      → (u v : Name) (y : Statement Cell) → option_map make (two_of g l u v) ≡ Some y → KeptBy s y
+  two_kept : (make : Cell → Cell → Statement Cell) (s : Statement Name) → ((c d : Cell) → controlled (make c d) ≡ controlled s) → ((c d : Cell) → cells_of (make c d) ≡ c ∷ d ∷ [])
+      → (u v : Name) (y : Statement Cell) → both make (cell_of g l u) (cell_of g l v) ≡ Some y → KeptBy s y
   two_kept make s same names u v y h =
-      let m = mapped_some make (two_of g l u v) y h in
-      let o = two_own u v m.0 m.1 in
-      subst (λ (z : Statement Cell). KeptBy s z) m.2
-      (same m.0, ap (each (λ c. ltb c.0 (g + l))) (names m.0) ∙ and_from _ _ o.0 (and_from _ true o.1 refl))
+      let m = both_some make (cell_of g l u) (cell_of g l v) y h in
+      subst (λ (z : Statement Cell). KeptBy s z) m.4
+      (same m.0 m.1, ap (each (λ c. ltb c.0 (g + l))) (names m.0 m.1) ∙ and_from _ _ (own_cell u m.0 m.2) (and_from _ true (own_cell v m.1 m.3) refl))
 
-  add_kept : (d s t : Name) (o : Option (Cell × Cell)) → two_of g l s t ≡ o → (y : Statement Cell) → then o (λ p. option_map (λ c. Add c p.0 p.1) (cell_of g l d)) ≡ Some y → KeptBy (Add d s t) y
+  add_kept : (d s t : Name) (o : Option Cell) → cell_of g l d ≡ o → (y : Statement Cell) → all_three Add o (cell_of g l s) (cell_of g l t) ≡ Some y → KeptBy (Add d s t) y
   add_kept d s t None e y h = let z : ◌≡◌ {A = ℕ} 0 1 = cc in absurd (omega arith)
-  add_kept d s t (Some q) e y h =
-      let o = two_own s t q e in
-      let m = mapped_some (λ c. Add c q.0 q.1) (cell_of g l d) y h in
-      subst (λ (z : Statement Cell). KeptBy (Add d s t) z) m.2
-      (refl, and_from _ _ (own_cell d m.0 m.1) (and_from _ _ o.0 (and_from _ true o.1 refl)))
+  add_kept d s t (Some c) e y h =
+      let m = both_some (Add c) (cell_of g l s) (cell_of g l t) y h in
+      subst (λ (z : Statement Cell). KeptBy (Add d s t) z) m.4
+      (refl, and_from _ _ (own_cell d c e) (and_from _ _ (own_cell s m.0 m.2) (and_from _ true (own_cell t m.1 m.3) refl)))
 
   pub numbered_keeps : (s : Statement Name) (y : Statement Cell) → numbered g l s ≡ Some y → KeptBy s y
   numbered_keeps (Set d) y h = one_kept Set (Set d) (λ c. refl) (λ c. refl) d y h
-  numbered_keeps (Move d s) y h = two_kept (λ p. Move p.0 p.1) (Move d s) (λ q. refl) (λ q. refl) d s y h
-  numbered_keeps (Add d s t) y h = add_kept d s t (two_of g l s t) refl y h
+  numbered_keeps (Move d s) y h = two_kept Move (Move d s) (λ c e. refl) (λ c e. refl) d s y h
+  numbered_keeps (Add d s t) y h = add_kept d s t (cell_of g l d) refl y h
   numbered_keeps (Read d) y h = one_kept Read (Read d) (λ c. refl) (λ c. refl) d y h
   numbered_keeps (Send s) y h = one_kept Send (Send s) (λ c. refl) (λ c. refl) s y h
   numbered_keeps (Goto k) y h = let e : Goto k ≡ y = cc in subst (λ (z : Statement Cell). KeptBy (Goto k) z) e (refl, refl)
   numbered_keeps (Test s k) y h = one_kept (λ c. Test c k) (Test s k) (λ c. refl) (λ c. refl) s y h
-  numbered_keeps (Call d p s) y h = two_kept (λ q. Call q.0 p q.1) (Call d p s) (λ q. refl) (λ q. refl) d s y h
+  numbered_keeps (Call d p s) y h = two_kept (λ c. Call c p) (Call d p s) (λ c e. refl) (λ c e. refl) d s y h
   numbered_keeps (Ret s) y h = one_kept Ret (Ret s) (λ c. refl) (λ c. refl) s y h
-  numbered_keeps (Trim d s) y h = two_kept (λ p. Trim p.0 p.1) (Trim d s) (λ q. refl) (λ q. refl) d s y h
+  numbered_keeps (Trim d s) y h = two_kept Trim (Trim d s) (λ c e. refl) (λ c e. refl) d s y h

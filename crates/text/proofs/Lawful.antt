@@ -78,6 +78,16 @@ module _ (t : List ℕ) (yes_all : Answered t) where
 pub lawful : (t : List ℕ) → accepted t ≡ true → is_lawful (meaning_of t) ≡ true
 lawful t a = lawful_by t (answered_yes t a)
 
+-- the program of a text that is accepted has as many statements as the text, and they are the text's
+pub as_long : (t : List ℕ) → accepted t ≡ true → length (collect (renumbered t) (written t)) ≡ length (written t)
+as_long t a = meant_length t (answered_yes t a)
+
+pub as_ended : (t : List ℕ) (n : ℕ) → accepted t ≡ true → None ≡ slice_get (written t) n → slice_get (collect (renumbered t) (written t)) n ≡ None
+as_ended t n a e = meant_nth t (answered_yes t a) n ∙ ap (λ o. then o (renumbered t)) (sym e)
+
+pub as_written : (t : List ℕ) (n : ℕ) (s : Statement Name) → accepted t ≡ true → Some s ≡ slice_get (written t) n → slice_get (collect (renumbered t) (written t)) n ≡ renumbered t s
+as_written t n s a e = meant_nth t (answered_yes t a) n ∙ ap (λ o. then o (renumbered t)) (sym e)
+
 pub few_points : (t : List ℕ) → miscounted t ≡ None → leb (length (flow_of t)) 1000 ≡ true
 unfolding miscounted
 few_points t h = ap (λ n. leb n 1000) (length-map (written t) controlled) ∙ (and_parts _ _ (passed _ 0 h)).1

@@ -4,6 +4,6 @@ pub mod Written
 pub mod Refusals
 pub mod Accepted
 pub mod Lawful
-pub mod Meant
 pub mod Made
 pub mod Law
+pub mod Taken

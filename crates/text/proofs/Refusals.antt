@@ -1,13 +1,13 @@
 -- The first no to a text, question by question.
-use Rattle.std.proofs.Common.{◌≡◌, ℕ, Bool, true, false, not, List, is_some, Some, None, Ok, Err, Option, Result, sym, refl, ap, ◌∙◌, arith, MatchResult}
+use Rattle.std.proofs.Common.{◌≡◌, ℕ, Bool, true, false, List, Some, None, Option, refl, ap, ◌∙◌, arith}
 use Rattle.std.specs.Option.{option_map}
-use Rattle.std.proofs.lemmas.Bool.{cond-true, cond-false}
+use Rattle.std.proofs.lemmas.Bool.{cond-true, cond-false, not-true}
 use Rattle.draft.specs.Rules.{unless, breach}
 use Rattle.draft.specs.declared.question.Question.{Question}
 use Rattle.draft.specs.declared.question.Question.TheVariants.{Size, Form, Ranges, Length}
 use Rattle.draft.specs.declared.question.Refusal.{Refusal}
-use Rattle.draft.specs.declared.question.Breach.{Breach}
-use Rattle.text.specs.Reading.{flow_of, owned_of, outsized, misformed, unranged, miscounted, on_line, or_next, refused, accepted, meaning_of, answered, reading}
+use Rattle.text.proofs.Written.{none_from}
+use Rattle.text.specs.Reading.{flow_of, owned_of, outsized, misformed, unranged, miscounted, on_line, or_next, refused, accepted}
 
 -- a test that was failed, and one that was passed
 pub unless_no : (b : Bool) (k : ℕ) → b ≡ false → unless b k ≡ Some k
@@ -64,30 +64,6 @@ module _ (t : List ℕ) where
         pub past_four : miscounted t ≡ None → refused t ≡ option_map on_line (breach (flow_of t) (owned_of t))
         past_four d = past_ranges ∙ ap (λ o. or_next Length o (after_length t)) d
 
--- what was read was not refused, and what was refused is told
-pub told_ok : {A : Type 0} (t : List ℕ) (x y : A) → Ok y ≡ answered (refused t) x → reading t ≡ Ok (meaning_of t)
-told_ok t x y e = go (refused t) e
-  where
-    go : (o : Option Refusal) → Ok y ≡ answered o x → answered o (meaning_of t) ≡ Ok (meaning_of t)
-    go None h = refl
-    go (Some r) h = let z : ◌≡◌ {A = ℕ} 0 1 = cc in absurd (omega arith)
-
-pub told_err : {A : Type 0} (t : List ℕ) (x : A) (r : Refusal) → Err r ≡ answered (refused t) x → reading t ≡ Err r
-told_err t x r e = go (refused t) e
-  where
-    go : (o : Option Refusal) → Err r ≡ answered o x → answered o (meaning_of t) ≡ Err r
-    go None h = let z : ◌≡◌ {A = ℕ} 0 1 = cc in absurd (omega arith)
-    go (Some q) h = let same : q ≡ r = cc in ap Err same
-
 -- what is accepted is not refused
-pub accepted_not : (t : List ℕ) → accepted t ≡ true → (r : Refusal) → refused t ≡ Some r → ⊥
-accepted_not t a r h = let no : accepted t ≡ false = ap (λ o. not (is_some o)) h in let z : ◌≡◌ {A = Bool} true false = sym a ∙ no in let y : ◌≡◌ {A = ℕ} 0 1 = cc in omega arith
-
-pub accepted_breach : (t : List ℕ) → accepted t ≡ true → outsized t ≡ None → misformed t ≡ None → unranged t ≡ None → miscounted t ≡ None → (b : Breach) → breach (flow_of t) (owned_of t) ≡ Some b → ⊥
-accepted_breach t a s w r c b h = accepted_not t a (on_line b) (past_four t s w r c ∙ ap (option_map on_line) h)
-
--- what an answer tells of reading, beside what else is known of it
-pub also_told : {A : Type 0} (t : List ℕ) (x : A) (r : Result A Refusal) (P : A → Type 0) (Q : Refusal → Type 0) → r ≡ answered (refused t) x → MatchResult r P Q
-    → MatchResult r (λ y. (reading t ≡ Ok (meaning_of t)) × P y) (λ e. (reading t ≡ Err e) × Q e)
-also_told t x (Ok y) P Q e h = (told_ok t x y e, h)
-also_told t x (Err r) P Q e h = (told_err t x r e, h)
+pub not_refused : (t : List ℕ) → accepted t ≡ true → refused t ≡ None
+not_refused t a = none_from (refused t) (not-true _ a)

@@ -1,86 +1,59 @@
--- Steps of the scan of a line, and what it finds of the lines.
-use Rattle.std.proofs.Common.{◌≡◌, ℕ, suc, ◌+◌, ◌-◌, ◌<◌, ◌≤◌, eqb, List, [], ◌∷◌, length, get_or, take, drop, Some, None, sym, ap, ◌∙◌, subst, ⊎_elim, arith}
-use Rattle.std.proofs.lemmas.List.{drop_more, drop-drop, drop_all, take_rest, length-take-le, length-drop}
-use Rattle.std.proofs.lemmas.Bool.{cond-true, cond-false, eq-eqb, ne_eqb, cases_Bool}
+-- The first line of a text, as the library's searches find it.
+use Rattle.std.proofs.Common.{◌≡◌, ℕ, zero, suc, ◌+◌, ◌<◌, ◌≤◌, ◌==◌, Bool, true, false, not, List, [], ◌∷◌, ◌++◌, length, get_or, take, drop, min, Some, None, sym, refl, ap, ◌∙◌, arith}
+use Rattle.std.specs.List.{position, position_or_len, IsFirstMatchOrLen}
+use Rattle.std.proofs.lemmas.List.{take_at, drop_at, take_all, length-take-le}
+use Rattle.std.proofs.lemmas.List.Sums.{prefix_len_passes, prefix_len_stops}
+use Rattle.std.proofs.lemmas.List.Quantifiers.{position-Some}
+use Rattle.std.proofs.lemmas.Bool.{cond-true, cond-false, not-true, not-false}
+use Rattle.std.proofs.lemmas.Bool.Decides.{nat_tests}
 use Rattle.grammar.specs.Words.{longer}
-use Rattle.text.specs.Lines.{ending, lines}
+use Rattle.text.specs.Lines.{lines}
 
-pub ending_here : (bs : List ℕ) (k : ℕ) → k < length bs → get_or bs k 0 ≡ 10 → ending k (drop k bs) ≡ Some (k + 1)
-ending_here bs k h e = ap (ending k) (drop_more bs k 0 h) ∙ cond-true _ _ _ (eq-eqb _ _ e)
+abbrev pub ends : ℕ → Bool
+ends b = b == 10
 
-pub ending_on : (bs : List ℕ) (k : ℕ) → k < length bs → (get_or bs k 0 ≡ 10 → ⊥) → ending k (drop k bs) ≡ ending (k + 1) (drop (k + 1) bs)
-ending_on bs k h n = ap (ending k) (drop_more bs k 0 h) ∙ cond-false _ _ _ (ne_eqb _ _ n)
+-- a text whose first LF is at i begins with a line of n bytes
+line_cut : (bs : List ℕ) (i n : ℕ) → n ≡ min (i + 1) (length bs) → ((k : ℕ) → k < i → k < length bs → ends (get_or bs k 0) ≡ false) → (i < length bs → ends (get_or bs i 0) ≡ true) → 0 < length bs → lines bs ≡ take n bs ∷ lines (drop n bs)
+line_cut [] i n e off on l = absurd (omega arith)
+line_cut (b ∷ bs) zero n e off on l =
+    let one : n ≡ 1 = omega arith in
+    cond-true _ _ _ (on (omega arith)) ∙ ap (λ k. take k (b ∷ bs) ∷ lines (drop k (b ∷ bs))) (sym one)
+line_cut (b ∷ []) (suc i) n e off on l =
+    let one : n ≡ 1 = omega arith in
+    cond-false _ _ _ (off 0 (omega arith) (omega arith)) ∙ ap (λ k. take k (b ∷ []) ∷ lines (drop k (b ∷ []))) (sym one)
+line_cut (b ∷ c ∷ cs) (suc i) n e off on l =
+    let more : n ≡ suc (min (i + 1) (length (c ∷ cs))) = omega arith in
+    cond-false _ _ _ (off 0 (omega arith) (omega arith))
+    ∙ (ap (longer b) (line_cut (c ∷ cs) i _ refl (λ k h m. off (suc k) (omega arith) (omega arith)) (λ h. on (omega arith)) (omega arith))
+    ∙ ap (λ k. take k (b ∷ c ∷ cs) ∷ lines (drop k (b ∷ c ∷ cs))) (sym more))
 
--- the first line of bs has n bytes, and ends at e where bs begins at k
-pub record Line (bs : List ℕ) (k e : ℕ) : Type 0 where
-  pub size : ℕ
-  pub ends : e ≡ k + size
-  pub some : 0 < size
-  pub within : size ≤ length bs
-  pub cuts : lines bs ≡ take size bs ∷ lines (drop size bs)
+-- a text that is not empty has a first line
+pub first_line : (bs : List ℕ) → 0 < length bs → (n : ℕ) × (n ≡ min (position_or_len ends bs + 1) (length bs)) × (lines bs ≡ take n bs ∷ lines (drop n bs))
+first_line bs l = (
+  min (position_or_len ends bs + 1) (length bs),
+  refl,
+  line_cut bs (position_or_len ends bs) _ refl
+      (λ k h m. not-true (ends (get_or bs k 0)) (prefix_len_passes (λ b. not (ends b)) bs k 0 h))
+      (λ h. not-false (ends (get_or bs (position_or_len ends bs) 0)) (prefix_len_stops (λ b. not (ends b)) bs 0 h))
+      l,
+)
 
-pub ending_line : (bs : List ℕ) (k e : ℕ) → ending k bs ≡ Some e → Line bs k e
-ending_line [] k e h = let z : ◌≡◌ {A = ℕ} 0 1 = cc in absurd (omega arith)
-ending_line (b ∷ bs) k e h =
-    ⊎_elim
-    (λ t. let q : k + 1 ≡ e = some_same (sym (cond-true _ _ _ t) ∙ h) in
-    record { size = 1; ends = sym q; some = omega arith; within = omega arith; cuts = cond-true _ _ _ t })
-    (λ f. let r : Line bs (k + 1) e = ending_line bs (k + 1) e (sym (cond-false _ _ _ f) ∙ h) in
-    record {
-      size = suc r.size;
-      ends = omega (arith, r.ends);
-      some = omega arith;
-      within = omega (arith, r.within);
-      cuts = cond-false _ _ _ f ∙ ap (longer b) r.cuts;
-    })
-    (cases_Bool (eqb b 10))
-  where
-    some_same : {x y : ℕ} → Some x ≡ Some y → x ≡ y
-    some_same p = cc
+-- the line that ends at the first LF, and the only line of a text with no LF
+pub line_found : (bs : List ℕ) (n : ℕ) → position ends bs ≡ Some n → lines bs ≡ take (n + 1) bs ∷ lines (drop (length (take (n + 1) bs)) bs)
+line_found bs n h =
+    let p = position-Some ends bs n 0 h in
+    line_cut bs n (n + 1) (omega (arith, p.0)) (λ k l m. p.2 k l) (λ l. p.1) (omega (arith, p.0))
+    ∙ ap (λ k. take (n + 1) bs ∷ lines (drop k bs)) (sym (length-take-le (n + 1) bs (omega (arith, p.0))))
 
--- a text with no LF is one line
-pub ending_last : (bs : List ℕ) (k : ℕ) → 0 < length bs → ending k bs ≡ None → lines bs ≡ bs ∷ []
-ending_last [] k l h = absurd (omega arith)
-ending_last (b ∷ []) k l h =
-    ⊎_elim
-    (λ t. let p : Some (k + 1) ≡ None = sym (cond-true _ _ _ t) ∙ h in let z : ◌≡◌ {A = ℕ} 0 1 = cc in absurd (omega arith))
-    (λ f. cond-false _ _ _ f)
-    (cases_Bool (eqb b 10))
-ending_last (b ∷ a ∷ bs) k l h =
-    ⊎_elim
-    (λ t. let p : Some (k + 1) ≡ None = sym (cond-true _ _ _ t) ∙ h in let z : ◌≡◌ {A = ℕ} 0 1 = cc in absurd (omega arith))
-    (λ f. cond-false _ _ _ f ∙ ap (longer b) (ending_last (a ∷ bs) (k + 1) (omega arith) (sym (cond-false _ _ _ f) ∙ h)))
-    (cases_Bool (eqb b 10))
+pub line_last : (bs : List ℕ) → 0 < length bs → position ends bs ≡ None → lines bs ≡ bs ∷ lines (drop (length bs) bs)
+line_last bs l h =
+    let none : length bs ≤ position_or_len ends bs = grind (arith, nat_tests) in
+    let f = first_line bs l in
+    let whole : f.0 ≡ length bs = omega (arith, f.1) in
+    f.2 ∙ (ap (λ k. take k bs ∷ lines (drop k bs)) whole ∙ ap (λ r. r ∷ lines (drop (length bs) bs)) (take_all (length bs) bs (omega arith)))
 
--- r is the line of bs that begins at a place
-pub record LineAt (bs : List ℕ) (at : ℕ) (r : List ℕ) : Type 0 where
-  pub some : 0 < length r
-  pub fits : at + length r ≤ length bs
-  pub cuts : lines (drop at bs) ≡ r ∷ lines (drop (at + length r) bs)
-
-line_size : (bs : List ℕ) (at n : ℕ) → at ≤ length bs → n ≤ length (drop at bs) → 0 < n → lines (drop at bs) ≡ take n (drop at bs) ∷ lines (drop n (drop at bs)) → LineAt bs at (take n (drop at bs))
-line_size bs at n a l s c =
-    let long : length (take n (drop at bs)) ≡ n = length-take-le n (drop at bs) l in
-    let rest : length (drop at bs) ≡ length bs - at = length-drop at bs in
-    record {
-      some = omega arith;
-      fits = omega arith;
-      cuts = c ∙ ap (λ d. take n (drop at bs) ∷ lines d) (drop-drop n at bs ∙ ap (λ m. drop (at + m) bs) (sym long));
-    }
-
-pub line_found : (bs : List ℕ) (at e : ℕ) → at ≤ length bs → Some e ≡ ending at (drop at bs) → LineAt bs at (take (e - at) (drop at bs))
-line_found bs at e a h =
-    let r : Line (drop at bs) at e = ending_line (drop at bs) at e (sym h) in
-    let m : r.size ≡ e - at = omega (arith, r.ends) in
-    subst (λ (n : ℕ). LineAt bs at (take n (drop at bs))) m (line_size bs at r.size a r.within r.some r.cuts)
-
-pub line_last : (bs : List ℕ) (at : ℕ) → at < length bs → None ≡ ending at (drop at bs) → LineAt bs at (take (length bs - at) (drop at bs))
-line_last bs at a h =
-    let rest : length (drop at bs) ≡ length bs - at = length-drop at bs in
-    let one : lines (drop at bs) ≡ drop at bs ∷ [] = ending_last (drop at bs) at (omega arith) (sym h) in
-    let whole : LineAt bs at (drop at bs) = record {
-      some = omega arith;
-      fits = omega arith;
-      cuts = one ∙ ap (λ d. drop at bs ∷ lines d) (sym (drop_all (at + length (drop at bs)) bs (omega arith)));
-    } in
-    subst (λ (r : List ℕ). LineAt bs at r) (sym (take_rest bs at)) whole
+-- the first of the parts that are cut after each LF is the first line
+pub line_part : (bs x ys : List ℕ) (i : ℕ) → bs ≡ x ++ ys → length x ≡ min (i + 1) (length bs) → IsFirstMatchOrLen ends bs i → 0 < length bs → lines bs ≡ x ∷ lines ys
+line_part bs x ys i e n m l =
+    line_cut bs i (length x) n (λ k h b. m.0 k 0 (omega arith) h) (λ h. m.1 h 0) l
+    ∙ (ap (λ r. r ∷ lines (drop (length x) bs)) (ap (take (length x)) e ∙ take_at x ys (length x) refl) ∙ ap (λ r. x ∷ lines r) (ap (drop (length x)) e ∙ drop_at x ys (length x) refl))

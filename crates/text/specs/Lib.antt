@@ -1,6 +1,8 @@
 pub mod Lines
+pub mod Mapped
 pub mod Cells
 pub mod Reading
 pub mod Survey
 pub mod Cases
 pub mod Law
+pub mod Telling

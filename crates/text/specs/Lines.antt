@@ -1,11 +1,6 @@
 -- The lines of a text.
-use Rattle.std.specs.Prelude.{ℕ, zero, suc, ◌+◌, cond, List, [], ◌∷◌, length, Some, None, Option, ◌==◌}
+use Rattle.std.specs.Prelude.{ℕ, zero, suc, ◌+◌, cond, List, [], ◌∷◌, length, ◌==◌}
 use Rattle.grammar.specs.Words.{longer}
-
--- the place after the first LF (10) of a text whose first byte has the place k
-abbrev pub ending : ℕ → List ℕ → Option ℕ
-ending k [] = None
-ending k (b ∷ bs) = cond (b == 10) (Some (k + 1)) (ending (k + 1) bs)
 
 -- each line with its LF: LF alone is an empty line, and only the last may lack its LF
 abbrev pub lines : List ℕ → List (List ℕ)

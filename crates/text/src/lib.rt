@@ -3,6 +3,9 @@
 
 mod cells;
 mod delivered;
+pub mod input;
+mod mapping;
 mod scan;
 mod survey;
+pub mod tell;
 pub mod text;

@@ -1,1 +1,3 @@
-pub mod Strays
+mod Calls
+mod Settled
+mod Strays

@@ -1,5 +1,5 @@
--- Number and place of a fault.
-use Rattle.std.specs.Prelude.{ℕ}
+-- Number and place of a fault, and how it is told.
+use Rattle.std.specs.Prelude.{ℕ, List, ◌++◌, codes, decimal}
 use Rattle.trail_check.specs.declared.fault.Fault.{Fault}
 use Rattle.trail_check.specs.declared.fault.Fault.TheVariants.{Room, Stray}
 
@@ -10,3 +10,7 @@ number_of (Stray j) = 18
 abbrev pub place_of : Fault → ℕ
 place_of Room = 0
 place_of (Stray j) = j
+
+-- `refused k at j`
+abbrev pub fault_text : Fault → List ℕ
+fault_text f = codes "refused " ++ (decimal (number_of f) ++ (codes " at " ++ decimal (place_of f)))

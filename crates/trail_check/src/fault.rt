@@ -1,6 +1,8 @@
 // Why a trail does not pass.
-ghost use Rattle.std.specs.Prelude.{◌≡◌};
-ghost use Rattle.trail_check.specs.Faults.{number_of, place_of};
+ghost use Rattle.std.specs.Prelude.{◌≡◌, Some};
+ghost use Rattle.trail_check.specs.Faults.{number_of, place_of, fault_text};
+
+use std::fmt;
 
 #[derive(Clone, Copy, PartialEq, Eq, Debug)]
 pub enum Fault {
@@ -29,5 +31,13 @@ impl Fault {
             Fault::Room => 0,
             Fault::Stray { place } => place,
         }
+    }
+}
+
+impl fmt::Display for Fault {
+    ghost output = { λ f. Some (fault_text f) };
+
+    fn fmt<W: fmt::Write>(&self, f: &mut fmt::Formatter<W>) -> fmt::Result {
+        write!(f, "refused {} at {}", self.number(), self.place())
     }
 }

@@ -1,11 +1,14 @@
-// Looking procedures up.
-ghost use Rattle.std.specs.Prelude.{◌≡◌, List, length};
+// Looking procedures up. Each clause asks which statements the index describes: it does not hold the statements that it was
+// made of, so no field of it can name them.
+ghost use Rattle.std.specs.Prelude.{◌≡◌, ◌<◌, List, length};
 ghost use Rattle.listing.specs.declared.control.Control.{Control};
+ghost use Rattle.listing.specs.Lawful.{together};
 ghost use Rattle.listing.specs.Meaning.{below, point, proc};
 ghost use Rattle.listing.specs.Procedures.{rets, procedure, entry, exit};
-ghost use Rattle.draft.specs.Index.{Describes, beside};
+ghost use Rattle.draft.specs.Index.{Describes};
 
 use crate::procedures::Procedures;
+use crate::tables::told;
 use listing::numbers::{Point, Proc};
 
 impl Procedures {
@@ -20,11 +23,7 @@ impl Procedures {
     pub fn procedure_of(&self, n: Point) -> Option<Proc>
         ensures { (cs : List Control) → Describes self.now cs → result ≡ below n.0 (length cs) (proc (procedure cs n.0)) }
     {
-        if n.0 < self.points {
-            Some(Proc(self.homes[n.0 as usize]))
-        } else {
-            None
-        }
+        told(&self.homes, n.0)
     }
 
     // The first point of a procedure, or none from P on.
@@ -34,29 +33,25 @@ impl Procedures {
         if p.0 >= self.count {
             return None;
         }
-        if p.0 == 0 {
+        let Some(before) = p.0.checked_sub(1) else {
             return Some(Point(0));
-        }
-        Some(Point(self.exits[p.0 as usize - 1] + 1))
+        };
+        let end = told(&self.exits, before)?;
+        Some(Point(end.0 + 1))
     }
 
     // The `ret` of a procedure, or none from P on.
     pub fn exit(&self, p: Proc) -> Option<Point>
         ensures { (cs : List Control) → Describes self.now cs → result ≡ below p.0 (rets cs) (point (exit cs p.0)) }
     {
-        if p.0 < self.count {
-            Some(Point(self.exits[p.0 as usize]))
-        } else {
-            None
-        }
+        told(&self.exits, p.0)
     }
 
-    // Whether k is a point of the procedure of n.
+    // Whether k is a point of the procedure of n, a point of the program.
+    #[tactic(auto, using(crate::proofs::Homes::together_equal))]
     pub(crate) fn together(&self, n: Point, k: Point) -> bool
-        ensures { result ≡ beside self.now n.0 k.0 }
+        ensures { (cs : List Control) → Describes self.now cs → n.0 < length cs → result ≡ together cs n.0 k.0 }
     {
-        k.0 < self.points
-            && n.0 < self.points
-            && self.homes[k.0 as usize] == self.homes[n.0 as usize]
+        self.procedure_of(k) == self.procedure_of(n)
     }
 }

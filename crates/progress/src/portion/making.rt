@@ -1,5 +1,4 @@
 // Making a portion.
-ghost use Rattle.std.specs.Prelude.{◌≡◌};
 ghost use Rattle.progress.specs.Sizes.{Sized};
 
 use crate::portion::Portion;
@@ -14,11 +13,5 @@ impl Portion {
         } else {
             None
         }
-    }
-
-    pub(crate) fn size(self) -> u32
-        ensures { result ≡ self.size }
-    {
-        self.size
     }
 }

@@ -2,6 +2,7 @@
 ghost use Rattle.std.specs.Prelude.{◌≡◌, ℕ, ◌+◌, ◌<◌, ◌≤◌, true, false, vec_len};
 ghost use Rattle.paths.specs.Table.{number_of};
 ghost use Rattle.paths.specs.Tabled.{cell_at, find, is_found};
+ghost use Rattle.table.specs.Leads.{kind_of, first_of, second_of};
 ghost use Rattle.table.specs.Records.{entered};
 ghost use Rattle.table.specs.State.{inner, cell_of, Inside, Found, Led, Kept};
 
@@ -13,15 +14,15 @@ use records::record::Record;
 // Writes a found cell, and its number into a slot.
 fn enter(records: &mut Vec<Record>, cell: u32, rank: u32, by: Lead, tail: u32)
     requires { (cell < vec_len records.old) × (tail < vec_len records.old) }
-    ensures { records.new.items ≡ entered records.old.items cell rank by.kind by.first by.second tail }
+    ensures { records.new.items ≡ entered records.old.items cell rank (kind_of by) (first_of by) (second_of by) tail }
 {
     let at = cell as usize;
     let slot = records[at].slot;
     records[at] = Record {
         rank,
-        kind: Some(by.kind),
-        first: by.first,
-        second: by.second,
+        kind: Some(by.kind()),
+        first: by.first(),
+        second: by.second(),
         slot,
     };
     records[tail as usize].slot = cell;
@@ -62,7 +63,8 @@ impl Core {
         self.records[cell as usize].rank > 0
     }
 
-    // The rank of the cell that is found next.
+    // The rank of the cell that is found next. The body does not read the cell: it is handed over for the contract, as a cell that is not
+    // found is what shows that fewer are found than the table has, so that the sum is in bounds.
     fn next_rank(&self, cell: u32) -> u32
         requires within { cell < self.now.size }
         requires unfound { is_found cell (inner self.now) ≡ false }
@@ -78,7 +80,7 @@ impl Core {
         requires rank { rank ≡ self.old.found + 1 }
         requires led { Led self.old by }
         ensures kept { Kept self.old self.new }
-        ensures after { inner self.new ≡ find by.kind by.first by.second cell (inner self.old) }
+        ensures after { inner self.new ≡ find (kind_of by) (first_of by) (second_of by) cell (inner self.old) }
     {
         let tail = self.tail;
         enter(&mut self.records, cell, rank, by, tail);
@@ -91,7 +93,7 @@ impl Core {
         requires within { cell < self.old.size }
         requires led { Led self.old by }
         ensures kept { Kept self.old self.new }
-        ensures after { inner self.new ≡ find by.kind by.first by.second cell (inner self.old) }
+        ensures after { inner self.new ≡ find (kind_of by) (first_of by) (second_of by) cell (inner self.old) }
     {
         if self.is_found(cell) {
             return;

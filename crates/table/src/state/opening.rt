@@ -1,64 +1,49 @@
 // Opening a table, closing it, opening it again, and ending it.
-ghost use Rattle.std.specs.Prelude.{◌≡◌, ◌+◌, ◌*◌, ◌≤◌, true, ◌++◌, map, drop, replicate, vec_len};
-ghost use Rattle.listing.specs.Meaning.{size};
-ghost use Rattle.paths.specs.Does.{handed, room_for, Closes};
+ghost use Rattle.std.specs.Prelude.{◌≡◌, ◌+◌, ◌*◌, ◌≤◌, ◌++◌, drop, length, replicate, vec_len};
+ghost use Rattle.paths.specs.Does.{Closes};
+ghost use Rattle.paths.specs.Handing.{handed_by};
 ghost use Rattle.records.specs.Blank.{blank};
-ghost use Rattle.table.specs.State.{rec, state};
+ghost use Rattle.table.specs.State.{state};
 ghost use Rattle.table.specs.Told.{NewlyMade, Opens, closed, left_closed, SameCore, tallied};
 
-use crate::state::{CLOSED, ClosedTable, Core, OPEN, OpenTable, Staged};
+use crate::state::{Closed, ClosedTable, Core, Open, OpenTable, Stage, Staged};
 use flow::interface::Problem;
 use listing::program::Program;
+use paths::analysis::Analysis;
 use records::fault::{Fault, Refusal};
 use records::record::Record;
 use records::tallies::Tallies;
+use std::marker::PhantomData;
 
 // Clears the first records.
-fn clear(records: &mut Vec<Record>, size: u32)
-    requires { size ≤ vec_len records.old }
-    ensures { records.new.items ≡ replicate size blank ++ drop size records.old.items }
+fn clear(records: &mut [Record], size: usize)
+    requires { size ≤ length records.old }
+    ensures { records.new ≡ replicate size blank ++ drop size records.old }
 {
-    for i in 0..size {
-        records[i as usize] = Record::blank();
-    }
-}
-
-// How many cells a table of so many points and facts has.
-fn cells_of(points: u16, facts: u8) -> u32
-    ensures { result ≡ points * facts * facts }
-{
-    u32::from(points) * u32::from(facts) * u32::from(facts)
+    records[..size].fill(Record::blank());
 }
 
 // How many records a table of a program and a problem needs.
-pub fn records_for<P: Program, Q: Problem>(program: &P, problem: &Q) -> u32
-    ensures { result ≡ size (P.meaning program.now) * Q.count problem.now * Q.count problem.now }
+pub fn records_for<P: Program, Q: Problem>(on: &Analysis<P, Q>) -> u32
+    ensures { let h = handed_by P.Program Q.Problem on.now in result ≡ h.points * h.facts * h.facts }
 {
-    let points = program.counts().points;
-    cells_of(points, problem.facts())
+    let points = on.program.counts().points;
+    let facts = on.problem.facts();
+    u32::from(points) * u32::from(facts) * u32::from(facts)
 }
 
-// Whether a memory has a record for each cell.
-fn has_room<P: Program, Q: Problem>(memory: &Vec<Record>, program: &P, problem: &Q) -> bool
-    ensures { result ≡ room_for (handed (P.meaning program.now) (Q.relation problem.now) (Q.count problem.now)) (map rec memory.now.items) }
+// A table in a memory, whose first records are cleared.
+fn cleared<P: Program, Q: Problem>(memory: Vec<Record>, on: &Analysis<P, Q>, size: u32) -> Core
+    requires size { let h = handed_by P.Program Q.Problem on.now in size ≡ h.points * h.facts * h.facts }
+    requires room { size ≤ vec_len memory }
+    ensures { NewlyMade (handed_by P.Program Q.Problem on.now) memory result }
 {
-    cells_of(program.counts().points, problem.facts()) as usize <= memory.len()
-}
-
-// A table in a memory whose first records are cleared.
-fn cleared<P: Program, Q: Problem>(memory: Vec<Record>, program: &P, problem: &Q) -> Core
-    requires { room_for (handed (P.meaning program.now) (Q.relation problem.now) (Q.count problem.now)) (map rec memory.items) ≡ true }
-    ensures { NewlyMade (handed (P.meaning program.now) (Q.relation problem.now) (Q.count problem.now)) memory result }
-{
-    let points = program.counts().points;
-    let facts = problem.facts();
-    let size = cells_of(points, facts);
     let mut records = memory;
-    clear(&mut records, size);
+    clear(records.as_mut_slice(), size as usize);
     Core {
         records,
-        points,
-        facts,
+        points: on.program.counts().points,
+        facts: on.problem.facts(),
         size,
         found: 0,
         head: 0,
@@ -66,24 +51,25 @@ fn cleared<P: Program, Q: Problem>(memory: Vec<Record>, program: &P, problem: &Q
     }
 }
 
-impl Staged<OPEN> {
+impl Staged<Open> {
     // Opens a table in a memory that has a record for each of its cells. The first records are cleared, the rest stay; a memory that is
     // too short comes back as it was.
     pub fn open<P: Program, Q: Problem>(
         memory: Vec<Record>,
-        program: &P,
-        problem: &Q,
+        on: &Analysis<P, Q>,
     ) -> Result<OpenTable, Refusal<Vec<Record>>>
-        ensures { Opens (handed (P.meaning program.now) (Q.relation problem.now) (Q.count problem.now)) memory result }
+        ensures { Opens (handed_by P.Program Q.Problem on.now) memory result }
     {
-        if !has_room(&memory, program, problem) {
+        let size = records_for(on);
+        if memory.len() < size as usize {
             return Err(Refusal {
                 fault: Fault::Memory,
                 back: memory,
             });
         }
-        Ok(Staged {
-            core: cleared(memory, program, problem),
+        Ok(OpenTable {
+            core: cleared(memory, on, size),
+            stage: PhantomData,
         })
     }
 
@@ -98,40 +84,27 @@ impl Staged<OPEN> {
                 back: self,
             });
         }
-        let Staged { core } = self;
-        Ok(Staged { core })
+        Ok(ClosedTable {
+            core: self.core,
+            stage: PhantomData,
+        })
     }
 }
 
-impl Staged<CLOSED> {
+impl Staged<Closed> {
     // Opens the table again.
     pub fn reopen(self) -> OpenTable
         ensures { result.core ≡ self.core }
     {
-        let Staged { core: kept } = self;
-        Staged { core: kept }
+        let core = self.core;
+        OpenTable {
+            core,
+            stage: PhantomData,
+        }
     }
 }
 
-impl Core {
-    // Ends the table, and gives the memory back.
-    fn memory(self) -> Vec<Record>
-        ensures { result ≡ self.records }
-    {
-        let Core {
-            records,
-            points: _,
-            facts: _,
-            size: _,
-            found: _,
-            head: _,
-            tail: _,
-        } = self;
-        records
-    }
-}
-
-impl<const STAGE: u8> Staged<STAGE> {
+impl<S: Stage> Staged<S> {
     // How many cells are found, settled and waiting.
     pub fn tallies(&self) -> Tallies
         ensures value { result ≡ tallied (state self.now) }
@@ -149,9 +122,8 @@ impl<const STAGE: u8> Staged<STAGE> {
 
     // Ends the table, and gives the memory back.
     pub fn end(self) -> Vec<Record>
-        ensures { result ≡ self.entry.core.records }
+        ensures { result ≡ self.core.records }
     {
-        let Staged { core } = self;
-        core.memory()
+        self.core.records
     }
 }

@@ -1,121 +1,99 @@
 // Settling a `ret`.
-ghost use Rattle.std.specs.Prelude.{◌≡◌, ◌+◌, ◌<◌};
-ghost use Rattle.listing.specs.Meaning.{size};
-ghost use Rattle.paths.specs.Supergraph.{graph_of};
+ghost use Rattle.std.specs.Prelude.{◌≡◌, ◌<◌};
+ghost use Rattle.paths.specs.Handing.{handed_by};
 ghost use Rattle.paths.specs.Tabled.{caller_each};
-ghost use Rattle.table.specs.Settling.{Stands, answers_cell, answers_row, answers};
+ghost use Rattle.table.specs.Settling.{Stands, ReturnStands, answers_cell, answers_row, answers};
 ghost use Rattle.table.specs.State.{inner, cell_of, Kept};
 
-use crate::sites::{Caller, Lead, Site, Spot};
+use crate::sites::{Caller, Lead, ReturnSite, Site, Spot};
 use crate::state::Core;
 use flow::edge::Edge;
 use flow::interface::Problem;
-use listing::numbers::{Cell, Fact, Point};
+use listing::numbers::{Cell, Fact};
 use listing::program::Program;
-use moves::moves::Kind;
+use paths::analysis::Analysis;
 
+// Each asks named facts of the table, the exit and the call. A struct that held the table's `&mut`, the problem and the exit could carry them,
+// but each method would then have to say that it keeps the reference, the problem and the exit: no plainer.
 impl Core {
     // Returns to a cell of a call, if that cell is found and the procedure was entered from it.
-    fn answer_cell<Q: Problem>(
-        &mut self,
-        problem: &Q,
-        x: Site,
-        ret_cell: Cell,
-        call: Caller,
-        b: Fact,
-        f: Fact,
-    )
-        requires facts { self.old.facts ≡ Q.count problem.now }
-        requires stands { Stands self.old x }
-        requires next { call.at.0 + 1 < self.old.points }
+    fn answer_cell<Q: Problem>(&mut self, problem: &Q, site: ReturnSite, b: Fact, f: Fact)
+        requires stands { ReturnStands self.old site }
         requires origin { b.0 < self.old.facts }
         requires fact { f.0 < self.old.facts }
         ensures kept { Kept self.old self.new }
-        ensures after { inner self.new ≡ answers_cell (Q.relation problem.now) (Q.count problem.now) x ret_cell call b.0 f.0 (inner self.old) }
+        ensures after { inner self.new ≡ answers_cell (Q.relation problem.now) self.old.facts site b.0 f.0 (inner self.old) }
     {
+        let caller = site.caller;
         let cell = self.number(Spot {
-            point: call.at,
+            point: caller.at,
             origin: b,
             fact: f,
         });
         let entering = Edge::Call {
-            at: call.at,
-            statement: call.statement,
+            at: caller.at,
+            statement: caller.statement,
         };
-        if self.is_found(cell) && problem.follows(entering, f, x.spot.origin) {
-            let edge = Edge::Return {
-                at: call.at,
-                statement: call.statement,
-                result: ret_cell,
+        if self.is_found(cell) && problem.follows(entering, f, site.exit.spot.origin) {
+            let by = Lead::Return {
+                call: cell,
+                exit: site.exit.cell,
             };
-            let by = Lead {
-                kind: Kind::Return,
-                first: cell,
-                second: x.cell,
-            };
-            let next = Point(call.at.0 + 1);
-            self.spread(problem, edge, x.spot.fact, by, next, b);
+            self.return_to(problem, caller, site.exit.spot.fact, by, b);
         }
     }
 
     // Returns to the cells of a call under one origin.
-    fn answer_row<Q: Problem>(
-        &mut self,
-        problem: &Q,
-        x: Site,
-        ret_cell: Cell,
-        call: Caller,
-        b: Fact,
-    )
-        requires facts { self.old.facts ≡ Q.count problem.now }
-        requires stands { Stands self.old x }
-        requires next { call.at.0 + 1 < self.old.points }
+    fn answer_row<Q: Problem>(&mut self, problem: &Q, site: ReturnSite, b: Fact)
+        requires stands { ReturnStands self.old site }
         requires origin { b.0 < self.old.facts }
         ensures kept { Kept self.old self.new }
-        ensures after { inner self.new ≡ answers_row (Q.relation problem.now) (Q.count problem.now) x ret_cell call b.0 (inner self.old) }
+        ensures after { inner self.new ≡ answers_row (Q.relation problem.now) self.old.facts site b.0 (inner self.old) }
     {
         for f in 0..self.facts {
-            self.answer_cell(problem, x, ret_cell, call, b, Fact(f));
+            self.answer_cell(problem, site, b, Fact(f));
         }
     }
 
     // Returns to the cells of a call.
-    fn answer_call<Q: Problem>(&mut self, problem: &Q, x: Site, ret_cell: Cell, call: Caller)
-        requires facts { self.old.facts ≡ Q.count problem.now }
-        requires stands { Stands self.old x }
-        requires next { call.at.0 + 1 < self.old.points }
+    fn answer_call<Q: Problem>(&mut self, problem: &Q, site: ReturnSite)
+        requires { ReturnStands self.old site }
         ensures kept { Kept self.old self.new }
-        ensures after { inner self.new ≡ answers (Q.relation problem.now) (Q.count problem.now) x ret_cell call (inner self.old) }
+        ensures after { inner self.new ≡ answers (Q.relation problem.now) self.old.facts site (inner self.old) }
     {
         for b in 0..self.facts {
-            self.answer_row(problem, x, ret_cell, call, Fact(b));
+            self.answer_row(problem, site, Fact(b));
         }
     }
 
     // Settles a `ret`: returns to each call of its procedure, in order.
     pub(super) fn settle_ret<P: Program, Q: Problem>(
         &mut self,
-        program: &P,
-        problem: &Q,
-        x: Site,
-        ret_cell: Cell,
+        on: &Analysis<P, Q>,
+        exit: Site,
+        returned: Cell,
     )
-        requires points { self.old.points ≡ size (P.meaning program.now) }
-        requires facts { self.old.facts ≡ Q.count problem.now }
-        requires stands { Stands self.old x }
+        requires points { self.old.points ≡ (handed_by P.Program Q.Problem on.now).points }
+        requires stands { Stands self.old exit }
         ensures kept { Kept self.old self.new }
-        ensures after { inner self.new ≡ caller_each (graph_of (P.meaning program.now)) (Q.relation problem.now) (size (P.meaning program.now)) (Q.count problem.now) ret_cell (cell_of x.spot) (inner self.old) }
+        ensures after { let h = handed_by P.Program Q.Problem on.now in inner self.new ≡ caller_each h.graph h.rule h.points self.old.facts returned (cell_of exit.spot) (inner self.old) }
     {
-        let Some(home) = program.procedure_of(x.spot.point) else {
+        let Some(home) = on.program.procedure_of(exit.spot.point) else {
             return;
         };
-        let mut caller = program.first_caller(home);
-        while let Some(at) = caller {
-            let Some(statement) = program.statement(at) else {
+        // a `for` over `iter::successors` would put the same walk into a closure: no plainer
+        let mut next = on.program.first_caller(home);
+        while let Some(at) = next {
+            let Some(statement) = on.program.statement(at) else {
                 return;
             };
-            self.answer_call(problem, x, ret_cell, Caller { at, statement });
-            caller = program.next_caller(at);
+            let caller = Caller {
+                at,
+                statement,
+                result: returned,
+            };
+            self.answer_call(on.problem, ReturnSite { exit, caller });
+            next = on.program.next_caller(at);
         }
     }
 }

@@ -1,21 +1,20 @@
 // The calls by which an open table is filled.
-ghost use Rattle.std.specs.Prelude.{◌≡◌, ◌-◌, ◌<◌, true, not, IfOk, OnErr, OnOk};
-ghost use Rattle.listing.specs.Meaning.{size};
-ghost use Rattle.paths.specs.Does.{handed, counts_fit, Sows, Works};
-ghost use Rattle.paths.specs.Supergraph.{graph_of};
+ghost use Rattle.std.specs.Prelude.{◌≡◌, ◌+◌, ◌<◌, true, not, IfOk, OnErr, OnOk};
+ghost use Rattle.paths.specs.Does.{counts_fit, Sows, Works};
+ghost use Rattle.paths.specs.Handing.{handed_by};
 ghost use Rattle.moves.specs.declared.moves.Kind.TheVariants as kind;
 ghost use Rattle.paths.specs.Table.{cell, number_of};
 ghost use Rattle.paths.specs.Tabled.{find, is_found, work};
-ghost use Rattle.table.specs.State.{inner, state, spare, Kept, SameCounts};
+ghost use Rattle.table.specs.State.{inner, state, spare, Kept, Serves};
 ghost use Rattle.table.specs.Settling.{Enters};
 ghost use Rattle.table.specs.Told.{sown, worked, CountsStay, Stops, Portions};
 
 use crate::sites::{Lead, Spot};
-use crate::state::{Core, OPEN, Staged};
+use crate::state::{Core, Open, Staged};
 use flow::interface::Problem;
 use listing::numbers::{Fact, Point, Proc};
 use listing::program::Program;
-use moves::moves::Kind;
+use paths::analysis::Analysis;
 use paths::worklist::End;
 use records::fault::Fault;
 
@@ -28,11 +27,11 @@ fn entry_of<P: Program>(program: &P, p: Proc) -> Option<Point>
 
 impl Core {
     // Whether N and F are the table's.
-    fn same_counts<P: Program, Q: Problem>(&self, program: &P, problem: &Q) -> bool
-        ensures value { result ≡ counts_fit (handed (P.meaning program.now) (Q.relation problem.now) (Q.count problem.now)) (inner self.now) }
-        ensures same { result ≡ true → SameCounts self.now (size (P.meaning program.now)) (Q.count problem.now) }
+    fn serves<P: Program, Q: Problem>(&self, on: &Analysis<P, Q>) -> bool
+        ensures value { result ≡ counts_fit (handed_by P.Program Q.Problem on.now) (inner self.now) }
+        ensures counts { result ≡ true → Serves (handed_by P.Program Q.Problem on.now) self.now }
     {
-        program.counts().points == self.points && problem.facts() == self.facts
+        on.program.counts().points == self.points && on.problem.facts() == self.facts
     }
 
     // Finds the cell of an entry with a fact, as a start: whether it is new.
@@ -49,65 +48,48 @@ impl Core {
             fact: d,
         });
         let new = !self.is_found(cell);
-        let by = Lead {
-            kind: Kind::Start,
-            first: 0,
-            second: 0,
-        };
-        self.find(cell, by);
+        self.find(cell, Lead::Start);
         new
     }
 
     // Settles up to k cells, taken from an end of the row, while one waits; gives their number.
-    fn settle_some<P: Program, Q: Problem>(
-        &mut self,
-        program: &P,
-        problem: &Q,
-        k: u32,
-        end: End,
-    ) -> u32
-        requires points { self.old.points ≡ size (P.meaning program.now) }
-        requires facts { self.old.facts ≡ Q.count problem.now }
-        ensures count { result ≡ (inner self.new).settled - (inner self.old).settled }
-        ensures after { inner self.new ≡ work (graph_of (P.meaning program.now)) (Q.relation problem.now) (size (P.meaning program.now)) (Q.count problem.now) k end (inner self.old) }
+    fn settle_some<P: Program, Q: Problem>(&mut self, on: &Analysis<P, Q>, k: u32, end: End) -> u32
+        requires { Serves (handed_by P.Program Q.Problem on.now) self.old }
+        ensures count { (inner self.new).settled ≡ (inner self.old).settled + result }
+        ensures after { inner self.new ≡ (let h = handed_by P.Program Q.Problem on.now in work h.graph h.rule h.points h.facts k end (inner self.old)) }
         ensures counts { CountsStay (inner self.old) (inner self.new) }
         ensures stops { Stops k result (inner self.new).waiting }
-        ensures portions { Portions (handed (P.meaning program.now) (Q.relation problem.now) (Q.count problem.now)) k end (inner self.old) (inner self.new) }
+        ensures portions { Portions (handed_by P.Program Q.Problem on.now) k end (inner self.old) (inner self.new) }
         ensures spare { spare self.new ≡ spare self.old }
     {
-        let mut done = 0;
-        while done < k {
+        for done in 0..k {
             let Some(cell) = self.take(end) else {
                 return done;
             };
-            self.settle(program, problem, cell);
-            done += 1;
+            self.settle(on, cell);
         }
-        done
+        k
     }
 }
 
-impl Staged<OPEN> {
+impl Staged<Open> {
     // Finds the cell of a procedure's entry with a fact, as a start: whether it is new. The start is accepted either way.
     pub fn sow<P: Program, Q: Problem>(
         &mut self,
-        program: &P,
-        problem: &Q,
+        on: &Analysis<P, Q>,
         p: Proc,
         d: Fact,
     ) -> Result<bool, Fault>
-        ensures sows { Sows (handed (P.meaning program.now) (Q.relation problem.now) (Q.count problem.now)) p.0 d.0 (state self.old) (sown result) (state self.new) }
+        ensures sows { Sows (handed_by P.Program Q.Problem on.now) p.0 d.0 (state self.old) (sown result) (state self.new) }
         ensures counts { CountsStay (state self.old) (state self.new) }
         ensures refused { OnErr result (self.new ≡ self.old) }
         ensures spare { spare self.new.core ≡ spare self.old.core }
     {
-        if !self.core.same_counts(program, problem) {
+        if !self.core.serves(on) {
             return Err(Fault::Counts);
         }
-        let Some(entry) = entry_of(program, p) else {
-            return Err(Fault::Range);
-        };
-        if d.0 >= problem.facts() {
+        let entry = entry_of(on.program, p).ok_or(Fault::Range)?;
+        if d.0 >= on.problem.facts() {
             return Err(Fault::Range);
         }
         Ok(self.core.start(entry, d))
@@ -116,21 +98,21 @@ impl Staged<OPEN> {
     // Settles up to k cells, taken from an end of the row, while one waits; gives their number.
     pub fn work<P: Program, Q: Problem>(
         &mut self,
-        program: &P,
-        problem: &Q,
+        on: &Analysis<P, Q>,
         k: u32,
         end: End,
     ) -> Result<u32, Fault>
-        ensures works { Works (handed (P.meaning program.now) (Q.relation problem.now) (Q.count problem.now)) k end (state self.old) (worked result) (state self.new) }
+        ensures works { Works (handed_by P.Program Q.Problem on.now) k end (state self.old) (worked result) (state self.new) }
         ensures counts { CountsStay (state self.old) (state self.new) }
+        ensures count { IfOk result (λ n. (state self.new).settled ≡ (state self.old).settled + n) }
         ensures stops { IfOk result (λ n. Stops k n (state self.new).waiting) }
-        ensures portions { OnOk result (Portions (handed (P.meaning program.now) (Q.relation problem.now) (Q.count problem.now)) k end (state self.old) (state self.new)) }
+        ensures portions { OnOk result (Portions (handed_by P.Program Q.Problem on.now) k end (state self.old) (state self.new)) }
         ensures refused { OnErr result (self.new ≡ self.old) }
         ensures spare { spare self.new.core ≡ spare self.old.core }
     {
-        if !self.core.same_counts(program, problem) {
+        if !self.core.serves(on) {
             return Err(Fault::Counts);
         }
-        Ok(self.core.settle_some(program, problem, k, end))
+        Ok(self.core.settle_some(on, k, end))
     }
 }

@@ -3,10 +3,38 @@ ghost use Rattle.std.specs.Prelude.{◌≡◌, ◌-◌, ◌<◌, ◌≤◌, fals
 ghost use Rattle.paths.specs.declared.worklist.End.TheVariants.{Oldest, Newest};
 ghost use Rattle.paths.specs.Does.{gives, refuses, Open, Closed, close_answer, close_after};
 ghost use Rattle.table.specs.State.{inner, Moved, Found};
-ghost use Rattle.table.specs.Worklist.{taken_from, took};
+ghost use Rattle.table.specs.Worklist.{place_of, head_of, tail_of, taken_from, took};
 
 use crate::state::Core;
 use paths::worklist::End;
+
+// What taking a cell at an end of the row asks: the cell's place, and the row's head and tail without it.
+struct Taken {
+    place: u32,
+    head: u32,
+    tail: u32,
+}
+
+// The place at an end of the row, and the row's head and tail without it.
+fn at_end(end: End, head: u32, tail: u32) -> Taken
+    requires { head < tail }
+    ensures place { result.place ≡ place_of end head tail }
+    ensures head { result.head ≡ head_of end head }
+    ensures tail { result.tail ≡ tail_of end tail }
+{
+    match end {
+        End::Oldest => Taken {
+            place: head,
+            head: head + 1,
+            tail,
+        },
+        End::Newest => Taken {
+            place: tail - 1,
+            head,
+            tail: tail - 1,
+        },
+    }
+}
 
 impl Core {
     // Whether a cell waits.
@@ -27,34 +55,6 @@ impl Core {
         self.tail - self.head
     }
 
-    // Takes the oldest cell.
-    fn take_oldest(&mut self) -> u32
-        requires { self.old.head < self.old.tail }
-        ensures value { Some result ≡ taken_from Oldest (inner self.old).waiting }
-        ensures after { inner self.new ≡ took Oldest (inner self.old) }
-        ensures moved { Moved self.old self.new }
-        ensures found { Found self.old result }
-    {
-        let head = self.head;
-        let cell = self.records[head as usize].slot;
-        self.head = head + 1;
-        cell
-    }
-
-    // Takes the newest cell.
-    fn take_newest(&mut self) -> u32
-        requires { self.old.head < self.old.tail }
-        ensures value { Some result ≡ taken_from Newest (inner self.old).waiting }
-        ensures after { inner self.new ≡ took Newest (inner self.old) }
-        ensures moved { Moved self.old self.new }
-        ensures found { Found self.old result }
-    {
-        let last = self.tail - 1;
-        let cell = self.records[last as usize].slot;
-        self.tail = last;
-        cell
-    }
-
     // Takes the cell at an end of the row, if one waits.
     pub(super) fn take(&mut self, end: End) -> Option<u32>
         ensures value { result ≡ taken_from end (inner self.old).waiting }
@@ -65,9 +65,10 @@ impl Core {
         if self.head == self.tail {
             return None;
         }
-        match end {
-            End::Oldest => Some(self.take_oldest()),
-            End::Newest => Some(self.take_newest()),
-        }
+        let Taken { place, head, tail } = at_end(end, self.head, self.tail);
+        let cell = self.records[place as usize].slot;
+        self.head = head;
+        self.tail = tail;
+        Some(cell)
     }
 }

@@ -1,15 +1,17 @@
 // Looking statements up by their places.
-ghost use Rattle.std.specs.Prelude.{◌≡◌};
+ghost use Rattle.std.specs.Prelude.{◌≡◌, is_some};
 ghost use Rattle.std.specs.List.{slice_get};
-ghost use Rattle.text.specs.Reading.{written, flow_of, owned_of};
+ghost use Rattle.text.specs.Reading.{written, flow_of, owned_of, renumbered};
 
+use crate::cells::cell;
 use crate::delivered::Delivered;
+use crate::mapping::try_map;
 use crate::scan::line_at;
 use draft::interface::Draft;
 use grammar::line::statement_of;
 use grammar::name::Name;
 use listing::control::Control;
-use listing::numbers::Point;
+use listing::numbers::{Cell, Point};
 use listing::statement::Statement;
 
 impl Delivered<'_> {
@@ -20,8 +22,16 @@ impl Delivered<'_> {
         if n.0 >= self.points {
             return None;
         }
-        let at = self.starts[n.0 as usize + 1] as usize;
-        statement_of(line_at(self.bytes, at))
+        let start = usize::from(self.starts[usize::from(n.0) + 1]);
+        statement_of(line_at(self.bytes, start))
+    }
+
+    // The statement over numbered cells, or none where a cell is not the program's.
+    pub(crate) fn numbered(&self, s: Statement<Name>) -> Option<Statement<Cell>>
+        ensures { result ≡ renumbered self.now.bytes.now s }
+    {
+        let cells = self.cells;
+        try_map(s, |name| cell(cells, name))
     }
 }
 
@@ -37,16 +47,13 @@ impl Draft for Delivered<'_> {
     }
 
     fn control(&self, n: Point) -> Option<Control> {
-        match self.statement(n) {
-            Some(s) => Some(s.control()),
-            None => None,
-        }
+        self.statement(n).map(|s| s.control())
     }
 
     fn owns_cells(&self, n: Point) -> bool {
-        match self.statement(n) {
-            Some(s) => self.cells.numbered(s).is_some(),
-            None => true,
-        }
+        let owned = |s: Statement<Name>| -> bool
+            ensures { result ≡ is_some (renumbered self.entry.now.bytes.now s) }
+        { self.numbered(s).is_some() };
+        self.statement(n).is_none_or(owned)
     }
 }

@@ -1,4 +1,4 @@
-// A text is a program.
+// A text is a program: the file's bytes and the indexes tell what it means.
 ghost use Rattle.text.specs.Reading.{meaning_of};
 
 use crate::text::Text;
@@ -12,36 +12,40 @@ impl Program for Text<'_> {
 
     ghost lawful = { λ t. t.lawful };
 
+    #[tactic(auto, using(crate::proofs::Lawful::as_long))]
     fn counts(&self) -> Counts {
+        let cells = self.delivered.cells;
         Counts {
-            globals: self.globals(),
-            locals: self.locals(),
-            points: self.length(),
-            procedures: self.procedure_count(),
+            globals: cells.globals(),
+            locals: cells.locals(),
+            points: self.delivered.points,
+            procedures: self.procedures.count(),
         }
     }
 
+    // Out of the file's own bytes.
+    #[tactic(auto, using(crate::proofs::Lawful::as_ended, crate::proofs::Lawful::as_written))]
     fn statement(&self, n: Point) -> Option<Statement<Cell>> {
-        self.statement_at(n)
+        self.delivered.numbered(self.delivered.statement(n)?)
     }
 
     fn procedure_of(&self, n: Point) -> Option<Proc> {
-        self.home(n)
+        self.procedures.procedure_of(n)
     }
 
     fn entry(&self, p: Proc) -> Option<Point> {
-        self.first_point(p)
+        self.procedures.entry(p)
     }
 
     fn exit(&self, p: Proc) -> Option<Point> {
-        self.last_point(p)
+        self.procedures.exit(p)
     }
 
     fn first_caller(&self, p: Proc) -> Option<Point> {
-        self.first_call(p)
+        self.callers.first(p)
     }
 
     fn next_caller(&self, n: Point) -> Option<Point> {
-        self.call_after(n)
+        self.callers.next(n)
     }
 }

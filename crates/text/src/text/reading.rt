@@ -6,7 +6,6 @@ ghost use Rattle.text.specs.Cases.{listed};
 ghost use Rattle.text.specs.Reading.{on_line, meaning_of, refused, accepted, answered, reading};
 
 use crate::delivered::Delivered;
-use crate::survey::survey_of;
 use crate::text::Text;
 use draft::callers::index_calls;
 use draft::examine::examine;
@@ -14,13 +13,13 @@ use draft::question::{Breach, Refusal};
 use listing::counts::Counts;
 use listing::program::Program;
 
-// Point n is line n + 2.
+// Point n is line n + 2. No `From`: the place is this make's, and both types are the crate's below.
 fn at_line(breach: Breach) -> Refusal
     ensures { result ≡ on_line breach }
 {
     Refusal {
         question: breach.question,
-        place: breach.point.0 as usize + 2,
+        place: usize::from(breach.point.0) + 2,
     }
 }
 
@@ -29,33 +28,7 @@ impl<'a> Text<'a> {
     pub fn shortest() -> Text<'a>
         ensures { result.delivered.bytes.now ≡ listed (codes "cells 0 1" ∷ codes "ret l0" ∷ []) }
     {
-        Text::accept(b"cells 0 1\nret l0\n")
-    }
-
-    // Makes the text of a file that no question refuses.
-    fn accept(bytes: &'a [u8]) -> Text<'a>
-        requires { accepted bytes.now ≡ true }
-        ensures { result.delivered.bytes.now ≡ bytes.now }
-    {
-        let Ok(survey) = survey_of(bytes) else {
-            unreachable()
-        };
-        let starts = survey.starts;
-        let delivered = Delivered {
-            bytes,
-            starts,
-            points: survey.points,
-            cells: survey.cells,
-        };
-        let Ok(procedures) = examine(&delivered) else {
-            unreachable()
-        };
-        let callers = index_calls(&delivered);
-        Text {
-            delivered,
-            procedures,
-            callers,
-        }
+        Text::of(b"cells 0 1\nret l0\n").unwrap()
     }
 
     // Reads a file: its counts, and this text is then that file's, or the first no, and this text is as it was.
@@ -64,33 +37,23 @@ impl<'a> Text<'a> {
         ensures reads { MatchResult result (λ _. (reading bytes.now ≡ Ok (meaning_of bytes.now)) × (self.new.delivered.bytes.now ≡ bytes.now)) (λ e. (reading bytes.now ≡ Err e) × (self.new ≡ self.old)) }
         ensures law { ReadsByLaw bytes.now result }
     {
-        self.fill(bytes)
-    }
-
-    fn fill(&mut self, bytes: &'a [u8]) -> Result<Counts, Refusal>
-        ensures value { result ≡ answered (refused bytes.now) (totals (meaning_of bytes.now)) }
-        ensures fills { MatchResult result (λ _. self.new.delivered.bytes.now ≡ bytes.now) (λ _. self.new ≡ self.old) }
-    {
-        let survey = survey_of(bytes)?;
-        let starts = survey.starts;
-        let delivered = Delivered {
-            bytes,
-            starts,
-            points: survey.points,
-            cells: survey.cells,
-        };
-        let procedures = match examine(&delivered) {
-            Ok(found) => found,
-            Err(breach) => return Err(at_line(breach)),
-        };
-        let callers = index_calls(&delivered);
-        let text = Text {
-            delivered,
-            procedures,
-            callers,
-        };
+        let text = Text::of(bytes)?;
         let counts = text.counts();
         *self = text;
         Ok(counts)
+    }
+
+    // The text of a file that no question refuses, or the first no.
+    fn of(bytes: &'a [u8]) -> Result<Text<'a>, Refusal>
+        ensures { MatchResult result (λ text. text.delivered.bytes.now ≡ bytes.now) (λ e. refused bytes.now ≡ Some e) }
+    {
+        let delivered = Delivered::of(bytes)?;
+        let procedures = examine(&delivered).map_err(at_line)?;
+        let callers = index_calls(&delivered);
+        Ok(Text {
+            delivered,
+            procedures,
+            callers,
+        })
     }
 }

@@ -1,11 +1,9 @@
-use Rattle.std.proofs.Common.{sym, ap, ◌∙◌}
+use Rattle.std.proofs.Common.{◌≡◌, sym, ap, ◌∙◌, rules}
 use Rattle.text.specs.Reading.{counted, head, or_zero}
 use Rattle.text.proofs.survey.counts_of.Goals as goal
 
-pub returns-in-Some : goal.returns-in-Some
+pub returns : goal.returns
 unfolding counted
-returns-in-Some c = sym (ap head c.line_at.ensures.cuts ∙ ap or_zero (sym c.in-Some.ensures.value))
-
-pub returns-in-None : goal.returns-in-None
-unfolding counted
-returns-in-None c = sym (ap head c.line_at.ensures.cuts ∙ ap or_zero (sym c.in-None.ensures.value))
+returns c =
+    let told : c.unwrap_or_default.result ≡ or_zero c.header_of.result = search rules in
+    told ∙ sym (ap head c.line_at.ensures ∙ ap or_zero (sym c.header_of.ensures.value))

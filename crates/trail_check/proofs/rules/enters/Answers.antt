@@ -1,9 +1,7 @@
-use Rattle.std.proofs.Common.{Some, sym, ap, ◌∙◌}
-use Rattle.paths.proofs.Callees.{has_entry}
+use Rattle.trail_check.proofs.Calls.{callee_entry}
 use Rattle.trail_check.proofs.rules.enters.Goals as goal
 
-pub returns-in_default-entry : goal.returns-in_default-entry
-returns-in_default-entry g c =
-    let m = g.P.Program.meaning c.args.program.now in
-    absurd (has_entry m (g.P.Program.lawful c.args.program.now) c.args.from.point c.in-Call.to c.in-Call.callee c.in-Call.argument
-    (sym (ap Some c.in-Call.is) ∙ c.in-Some.ensures) c.in_default-entry.ensures)
+pub returns-in_err-entry : goal.returns-in_err-entry
+returns-in_err-entry g c =
+    let p = c.args.on.now.program.now in
+    absurd (callee_entry (g.P.Program.meaning p) (g.P.Program.lawful p) c.args.from.point _ _ c.in_ok-statement.ensures c.in_err-entry.ensures)

@@ -1,9 +1,7 @@
-use Rattle.std.proofs.Common.{Some, sym, ap, ◌∙◌}
-use Rattle.paths.proofs.Callees.{has_exit}
+use Rattle.trail_check.proofs.Calls.{callee_exit}
 use Rattle.trail_check.proofs.rules.returns.Goals as goal
 
-pub returns-in_default-exit : goal.returns-in_default-exit
-returns-in_default-exit g c =
-    let m = g.P.Program.meaning c.args.program.now in
-    absurd (has_exit m (g.P.Program.lawful c.args.program.now) c.args.call c.in-Call.to c.in-Call.callee c.in-Call.argument
-    (sym (ap Some c.in-Call.is) ∙ c.in-Some.ensures) c.in_default-exit.ensures)
+pub returns-in_err-exit : goal.returns-in_err-exit
+returns-in_err-exit g c =
+    let p = c.args.on.now.program.now in
+    absurd (callee_exit (g.P.Program.meaning p) (g.P.Program.lawful p) c.args.call _ _ c.in_ok-statement.ensures c.in_err-exit.ensures)

@@ -6,6 +6,8 @@ use Rattle.draft.proofs.callers.indexing.index_calls.Given as goal
 -- the calls from the point on are told
 abbrev pub invariant-loop-n : goal.invariant-loop-n
 invariant-loop-n g l =
-    (length l.first ≡ 60)
-    × (length l.next ≡ 1000)
-    × Threaded (bounded_calls (g.D.Draft.flow l.draft)) l.first l.next l.n
+    record {
+      procedures : length l.callers.first ≡ 60;
+      points : length l.callers.next ≡ 1000;
+      calls : Threaded (bounded_calls (g.D.Draft.flow l.draft)) l.callers.first l.callers.next l.n;
+    }

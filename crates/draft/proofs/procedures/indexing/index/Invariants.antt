@@ -1,14 +1,18 @@
-use Rattle.std.proofs.Common.{◌≡◌, ℕ, ◌<◌, ◌≤◌, length, get_or}
+use Rattle.std.proofs.Common.{◌≡◌, ℕ, ◌≤◌, length}
+use Rattle.listing.specs.Meaning.{below, point, proc}
 use Rattle.listing.specs.Procedures.{procedure, exit}
+use Rattle.draft.specs.Told.{told}
 use Rattle.draft.proofs.procedures.indexing.index.Given as goal
 
+-- the points so far and their procedures are told
 abbrev pub invariant-loop-n : goal.invariant-loop-n
 invariant-loop-n g l =
     let cs = g.D.Draft.flow l.draft in
-    (length l.homes ≡ 1000)
-    × (length l.exits ≡ 60)
-    × (l.count ≤ 60)
-    × (l.count ≡ procedure cs l.n)
-    × ((k : ℕ) → k < l.n → get_or l.homes k 0 ≡ procedure cs k)
-    × ((p : ℕ) → p < l.count → get_or l.exits p 0 ≡ exit cs p)
-    × ((p : ℕ) → p < l.count → get_or l.exits p 0 < l.n)
+    record {
+      points : length l.homes ≡ 1000;
+      procedures : length l.exits ≡ 60;
+      few : l.count ≤ 60;
+      count : l.count ≡ procedure cs l.n;
+      homes : (k : ℕ) → told l.homes k ≡ below k l.n (proc (procedure cs k));
+      exits : (p : ℕ) → told l.exits p ≡ below p l.count (point (exit cs p));
+    }

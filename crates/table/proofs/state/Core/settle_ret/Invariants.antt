@@ -3,10 +3,10 @@ use Rattle.table.specs.State.{inner, Kept}
 use Rattle.table.proofs.Callers.{Progress, left}
 use Rattle.table.proofs.state.Core.settle_ret.Given as goal
 
-abbrev pub invariant-loop-caller : goal.invariant-loop-caller
-invariant-loop-caller g l =
+abbrev pub invariant-loop-next : goal.invariant-loop-next
+invariant-loop-next g l =
     Kept l.initial.self l.self
-    × Progress (g.P.Program.meaning l.program) (g.Q.Problem.relation l.problem) (g.Q.Problem.count l.problem) l.ret_cell l.x (inner l.initial.self) l.caller (inner l.self)
+    × Progress (g.P.Program.meaning l.on.program.now) (g.Q.Problem.relation l.on.problem.now) (l.initial.self.facts) l.returned l.exit (inner l.initial.self) l.next (inner l.self)
 
-abbrev pub decreases-loop-caller : goal.decreases-loop-caller
-decreases-loop-caller g l = left (size (g.P.Program.meaning l.program)) l.caller
+abbrev pub decreases-loop-next : goal.decreases-loop-next
+decreases-loop-next g l = left (size (g.P.Program.meaning l.on.program.now)) l.next

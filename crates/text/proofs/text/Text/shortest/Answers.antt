@@ -1,8 +1,19 @@
-use Rattle.std.proofs.Common.{refl}
+use Rattle.std.proofs.Common.{◌≡◌, List, ℕ, None, Some, Ok, Err, Result, IsOk, MatchResult, [], ◌∷◌, codes, refl, sym, ◌∙◌}
+use Rattle.std.proofs.lemmas.Option.{none-some}
+use Rattle.draft.specs.declared.question.Refusal.{Refusal}
 use Rattle.draft.specs.Rules.{unended, crowded, foreign, astray, missing}
-use Rattle.text.specs.Reading.{counted, written, outsized, misformed, unranged, miscounted}
+use Rattle.text.specs.Cases.{listed}
+use Rattle.text.specs.Reading.{counted, written, outsized, misformed, unranged, miscounted, refused}
+use Rattle.text.proofs.Refusals.{not_refused}
 use Rattle.text.proofs.text.Text.shortest.Goals as goal
 
-pub accept-requires : goal.accept-requires
+-- a text that no question refuses is read
+read : {A : Type 0} (t : List ℕ) (r : Result A Refusal) (P : A → Type 0) → refused t ≡ None → MatchResult r P (λ e. refused t ≡ Some e) → IsOk r
+read t (Ok x) P n m = refl
+read t (Err e) P n m = absurd (none-some _ (sym n ∙ m))
+
+pub unwrap-requires : goal.unwrap-requires
 unfolding outsized misformed counted written unranged miscounted unended crowded foreign astray missing
-accept-requires c = refl
+unwrap-requires c =
+    let t = listed (codes "cells 0 1" ∷ codes "ret l0" ∷ []) in
+    read t c.of.result _ (not_refused t refl) c.of.ensures

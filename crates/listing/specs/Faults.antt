@@ -1,0 +1,7 @@
+-- The number of a fault.
+use Rattle.std.specs.Prelude.{ℕ}
+use Rattle.listing.specs.declared.cells.Fault.{Fault}
+use Rattle.listing.specs.declared.cells.Fault.TheVariants.{Range}
+
+abbrev pub number_of : Fault → ℕ
+number_of Range = 10
