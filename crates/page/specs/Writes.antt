@@ -1,6 +1,5 @@
--- What is written into a page that is lent.
-use Rattle.std.specs.Prelude.{◌≡◌, ℕ, ◌+◌, ◌<◌, ◌≤◌, List, [], ◌∷◌, ◌++◌, length, Some, None, decimal, Option}
-use Rattle.paths.specs.Page.{put_at}
+-- What is written into a part of a page that is lent.
+use Rattle.std.specs.Prelude.{◌≡◌, ℕ, ◌<◌, ◌≤◌, List, [], ◌∷◌, ◌++◌, length, drop, Some, None, decimal, Option}
 
 -- a text and then a number in decimal
 abbrev pub item : List ℕ → ℕ → List ℕ
@@ -10,18 +9,18 @@ item text number = text ++ decimal number
 abbrev pub phrase : List ℕ → ℕ → List ℕ → ℕ → List ℕ
 phrase before first between second = before ++ (decimal first ++ (between ++ (decimal second ++ (10 ∷ []))))
 
--- the text fits, stands at its place, and ends at `end`
-pub record Put (text : List ℕ) (place : ℕ) (page : List ℕ) (end : ℕ) (page' : List ℕ) : Type 0 where
-  pub fits : place + length text ≤ length page
-  pub ends : end ≡ place + length text
-  pub holds : page' ≡ put_at place text page
+-- the text fits, stands at the front of the part, and takes `count` bytes; what stands after it stays
+pub record Put (text : List ℕ) (part : List ℕ) (count : ℕ) (part' : List ℕ) : Type 0 where
+  pub fits : length text ≤ length part
+  pub takes : count ≡ length text
+  pub holds : part' ≡ text ++ drop (length text) part
 
--- the text does not fit, and the page is as it was
-pub record Kept (text : List ℕ) (place : ℕ) (page page' : List ℕ) : Type 0 where
-  pub full : length page < place + length text
-  pub same : page' ≡ page
+-- the text does not fit, and the part is as it was
+pub record Kept (text : List ℕ) (part part' : List ℕ) : Type 0 where
+  pub full : length part < length text
+  pub same : part' ≡ part
 
--- what writing a text at a place of a page answers, and the page after it
-abbrev pub Writes : List ℕ → ℕ → List ℕ → Option ℕ → List ℕ → Type 0
-Writes text place page (Some end) page' = Put text place page end page'
-Writes text place page None page' = Kept text place page page'
+-- what writing a text at the front of a part of a page answers, and the part after it
+abbrev pub Writes : List ℕ → List ℕ → Option ℕ → List ℕ → Type 0
+Writes text part (Some count) part' = Put text part count part'
+Writes text part None part' = Kept text part part'

@@ -1,13 +1,15 @@
 -- Number and place of a fault.
 use Rattle.std.specs.Prelude.{ℕ}
 use Rattle.records.specs.declared.fault.Fault.{Fault}
-use Rattle.records.specs.declared.fault.Fault.TheVariants.{Memory, Counts, Range, Waiting}
+use Rattle.records.specs.declared.fault.Fault.TheVariants.{Memory, Counts, Range, Waiting, Unwritten, Full}
 
 abbrev pub number_of : Fault → ℕ
 number_of Memory = 11
 number_of Counts = 12
 number_of Range = 13
 number_of Waiting = 14
+number_of Unwritten = 16
+number_of Full = 17
 
 abbrev pub place_of : Fault → ℕ
 place_of f = 0

@@ -1,4 +1,4 @@
-// Why a call of the table is refused.
+// Why a call of the table, or of a report of it, is refused.
 ghost use Rattle.std.specs.Prelude.{◌≡◌};
 ghost use Rattle.records.specs.Faults.{number_of, place_of};
 
@@ -12,6 +12,10 @@ pub enum Fault {
     Range,
     // a cell still waits
     Waiting,
+    // a pair has no line yet
+    Unwritten,
+    // what is to be written does not fit
+    Full,
 }
 
 impl Fault {
@@ -24,6 +28,8 @@ impl Fault {
             Fault::Counts => 12,
             Fault::Range => 13,
             Fault::Waiting => 14,
+            Fault::Unwritten => 16,
+            Fault::Full => 17,
         }
     }
 

@@ -11,3 +11,4 @@ pub mod Callers
 pub mod Settles
 pub mod Works
 pub mod Opens
+pub mod Pairs

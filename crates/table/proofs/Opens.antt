@@ -2,10 +2,7 @@
 use Rattle.std.proofs.Common.{◌≡◌, ℕ, zero, suc, ◌*◌, ◌<◌, ◌≤◌, true, false, List, [], ◌∷◌, ◌++◌, map, length, take, drop, replicate, sym, refl, ap, ◌∙◌, mul-le-mul, mul-pos, arith}
 use mathlib.Core.List.{map-append}
 use Rattle.std.proofs.lemmas.List.{take_at, drop-map, length-replicate, length-append, length-map, get_or_append_left, get_or-replicate}
-use Rattle.paths.proofs.Lawly.{exact_rows}
-use Rattle.paths.specs.Does.{Handed}
-use Rattle.paths.specs.Exactly.{ExactFrom}
-use Rattle.paths.specs.Law as law
+use Rattle.paths.specs.Does.{Handed, Newly}
 use Rattle.paths.specs.Memory as memory
 use Rattle.paths.specs.Tabled.{newly_in}
 use Rattle.records.specs.Blank.{blank}
@@ -90,9 +87,9 @@ module _ (h : Handed) (n f k : ℕ) (points : n ≡ h.points) (facts : f ≡ h.f
     pub new_memory : new ≡ replicate (h.points * h.facts * h.facts) blank ++ drop (h.points * h.facts * h.facts) rs
     new_memory = made ∙ ap (λ (j : ℕ). replicate j blank ++ drop j rs) cells
 
-    pub new_exact : law.Sound h → ExactFrom h (state_of new n f 0 0 0)
-    new_exact sound = exact_rows h sound (state_of new n f 0 0 0) (record {
+    pub newly : Newly h (state_of new n f 0 0 0)
+    newly = record {
       memory = map rec rs;
       room = (let e = length-map rs rec in omega arith);
       cleared = new_state;
-    })
+    }

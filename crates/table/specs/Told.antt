@@ -1,9 +1,13 @@
 -- What the calls of a table answer and leave, in the words in which rows of calls speak of them.
-use Rattle.std.specs.Prelude.{◌≡◌, ℕ, ◌+◌, ◌*◌, ◌<◌, ◌≤◌, Bool, true, false, List, [], ◌++◌, map, length, drop, replicate, Ok, Err, vec_items, Result}
+use Rattle.std.specs.Prelude.{◌≡◌, ℕ, ◌+◌, ◌*◌, ◌<◌, ◌≤◌, Bool, true, false, cond, List, [], ◌++◌, map, length, drop, replicate, Ok, Err, Some, None, vec_items, Option, Result, nat_lt}
 use Rattle.std.specs.Global.{Vec}
 use Rattle.paths.specs.Does.{Handed, Answer, gives, refuses, State, Open, Closed, open_answer}
 use Rattle.paths.specs.Exactly.{ExactFrom}
-use Rattle.paths.specs.Tabled.{Tabled, newly_in, work}
+use Rattle.paths.specs.Law.{LawFrom}
+use Rattle.paths.specs.Usage.{Usage}
+use Rattle.paths.specs.Machine.{both}
+use Rattle.paths.specs.Tabled.{Tabled, newly_in, work, record_at, cell_at}
+use Rattle.paths.specs.Words.{kind_of, least_found}
 use Rattle.paths.specs.declared.worklist.End.{End}
 use Rattle.records.specs.Faults.{number_of}
 use Rattle.records.specs.Blank.{blank}
@@ -12,6 +16,7 @@ use Rattle.records.specs.declared.fault.Fault.{Fault}
 use Rattle.records.specs.declared.fault.Refusal.{Refusal}
 use Rattle.records.specs.declared.record.Record.{Record}
 use Rattle.table.specs.declared.state.Core.{Core}
+use Rattle.table.specs.declared.arrival.Arrival.{Arrival}
 use Rattle.records.specs.declared.tallies.Tallies.{Tallies}
 
 -- the answer of sow: 1 where the cell is new, else 0
@@ -43,11 +48,14 @@ pub record Portions (h : Handed) (k : ℕ) (end : End) (before after : Tabled) :
 abbrev pub Memory : Type 0
 Memory = Vec Record
 
--- a table newly made in the memory, whose first records are cleared and whose rest stays: after any row of calls with this program and
--- this problem it has, once it is closed, found exactly what is reached
+-- a table newly made in the memory, whose first records are cleared and whose rest stays. Every row of calls from there on, with this
+-- program and this problem, keeps the law; what a caller may carry from call to call leads to it; and once the table is closed, it has
+-- found exactly what is reached
 pub record NewlyMade (h : Handed) (memory : Memory) (c : Core) : Type 0 where
   pub state_is : inner c ≡ newly_in h.points h.facts (map rec (vec_items memory))
   pub holds : vec_items c.records ≡ replicate (h.points * h.facts * h.facts) blank ++ drop (h.points * h.facts * h.facts) (vec_items memory)
+  pub law : LawFrom h (inner c)
+  pub usage : Usage h (inner c)
   pub exact : ExactFrom h (inner c)
 
 -- open gives such a table; or it refuses, and gives the memory back as it was
@@ -76,6 +84,28 @@ left_closed (Err e) = Open (state e.back)
 abbrev pub SameCore : Core → Result ClosedTable (Refusal OpenTable) → Type 0
 SameCore c (Ok t) = t.core ≡ c
 SameCore c (Err e) = e.back.core ≡ c
+
+-- n < N and d < F
+abbrev pub has_pair : Tabled → ℕ → ℕ → Bool
+has_pair t n d = both (nat_lt n t.points) (nat_lt d t.facts)
+
+-- the number of the found cell (n, a, d) of least a, if any
+abbrev pub least : Tabled → ℕ → ℕ → Option ℕ
+least t n d = cond (has_pair t n d) (least_found t.facts n d t) None
+
+-- how the cell with the number c was found, as its record says
+pub record Arrived (t : Tabled) (c : ℕ) (a : Arrival) : Type 0 where
+  pub within : c < t.points * t.facts * t.facts
+  pub kind : a.kind ≡ kind_of (record_at t c).kind
+  pub point : a.point.0 ≡ (cell_at t.facts c).point
+  pub fact : a.fact.0 ≡ (cell_at t.facts c).fact
+  pub first : a.first ≡ (record_at t c).first
+  pub second : a.second ≡ (record_at t c).second
+
+-- the same, or none where the table has no such cell
+abbrev pub Arrives : Tabled → ℕ → Option Arrival → Type 0
+Arrives t c (Some a) = Arrived t c a
+Arrives t c None = t.points * t.facts * t.facts ≤ c
 
 abbrev pub tallied : Tabled → Tallies
 tallied t = record { found = t.found; settled = t.settled; waiting = length t.waiting }

@@ -1,5 +1,6 @@
 // The tabulation: a table of found cells, settled in portions.
 #![tactic(auto)]
 
+pub mod arrival;
 mod sites;
 pub mod state;

@@ -8,6 +8,7 @@ use std::marker::PhantomData;
 mod calls;
 mod finding;
 mod opening;
+mod reads;
 mod returns;
 mod settling;
 mod spreading;

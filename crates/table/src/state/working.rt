@@ -1,5 +1,5 @@
 // The calls by which an open table is filled.
-ghost use Rattle.std.specs.Prelude.{◌≡◌, ◌+◌, ◌<◌, true, not, IfOk, OnErr, OnOk};
+ghost use Rattle.std.specs.Prelude.{◌≡◌, ◌+◌, ◌*◌, ◌<◌, ◌≤◌, true, not, IfOk, OnErr, OnOk};
 ghost use Rattle.paths.specs.Does.{counts_fit, Sows, Works};
 ghost use Rattle.paths.specs.Handing.{handed_by};
 ghost use Rattle.moves.specs.declared.moves.Kind.TheVariants as kind;
@@ -106,6 +106,7 @@ impl Staged<Open> {
         ensures counts { CountsStay (state self.old) (state self.new) }
         ensures count { IfOk result (λ n. (state self.new).settled ≡ (state self.old).settled + n) }
         ensures stops { IfOk result (λ n. Stops k n (state self.new).waiting) }
+        ensures bound { let t = state self.new in t.settled ≤ t.points * t.facts * t.facts }
         ensures portions { OnOk result (Portions (handed_by P.Program Q.Problem on.now) k end (state self.old) (state self.new)) }
         ensures refused { OnErr result (self.new ≡ self.old) }
         ensures spare { spare self.new.core ≡ spare self.old.core }

@@ -4,12 +4,15 @@ use Rattle.std.specs.Vec.{with_items}
 use Rattle.listing.proofs.Parts.{parts}
 use Rattle.listing.specs.Meaning.{size}
 use Rattle.paths.proofs.Callees.{sound}
+use Rattle.paths.proofs.Lawly.{exact_rows, the_law}
+use Rattle.paths.proofs.Using.{usage}
 use Rattle.paths.specs.Does.{Handed}
 use Rattle.paths.specs.Handing.{handed_by}
 use Rattle.records.specs.Blank.{blank}
 use Rattle.records.specs.declared.record.Record.{Record}
-use Rattle.table.proofs.Opens.{opened_sound, some_cells, size_of, new_state, new_memory, new_exact}
+use Rattle.table.proofs.Opens.{opened_sound, some_cells, size_of, new_state, new_memory, newly}
 use Rattle.table.proofs.Sounds.{Sound}
+use Rattle.table.specs.State.{state_of}
 use Rattle.table.specs.Told.{Memory}
 use Rattle.table.proofs.state.opening.cleared.Goals as goal
 
@@ -71,8 +74,13 @@ returns g c =
     let held : k ≤ length rs = omega (arith, c.requires.room, c.args.memory.ok.0) in
     let new : List Record = vec_items (with_items c.args.memory c.clear.new.records) in
     let made = front_cleared c.args.memory k c.as_mut_slice.result.now c.clear.new.records c.as_mut_slice.ensures.value c.clear.auto.records c.clear.ensures in
+    let fine = sound m (g.P.Program.lawful c.args.on.now.program.now) (g.Q.Problem.relation q) (g.Q.Problem.count q) (g.met.Q.Problem.within q) (g.met.Q.Problem.few q) in
+    let first = state_of new n f 0 0 0 in
+    let made_newly = newly h n f k en ef c.requires.size rs held new made in
     record {
       state_is = new_state h n f k en ef c.requires.size rs held new made;
       holds = new_memory h n f k en ef c.requires.size rs held new made;
-      exact = new_exact h n f k en ef c.requires.size rs held new made (sound m (g.P.Program.lawful c.args.on.now.program.now) (g.Q.Problem.relation q) (g.Q.Problem.count q) (g.met.Q.Problem.within q) (g.met.Q.Problem.few q));
+      law = the_law h fine first made_newly;
+      usage = usage h fine first made_newly;
+      exact = exact_rows h fine first made_newly;
     }

@@ -1,0 +1,70 @@
+// What may be read of a table.
+ghost use Rattle.std.specs.Prelude.{◌≡◌, ◌<◌};
+ghost use Rattle.paths.specs.Words.{least_found};
+ghost use Rattle.table.specs.State.{inner, state};
+ghost use Rattle.table.specs.Told.{has_pair, least, Arrives};
+
+use crate::arrival::Arrival;
+use crate::sites::Spot;
+use crate::state::{Core, Stage, Staged};
+use listing::numbers::{Fact, Point};
+use moves::moves::Kind;
+
+impl Core {
+    // The number of the found cell of a pair with the least origin, if any.
+    fn least_found(&self, point: Point, fact: Fact) -> Option<u32>
+        requires point { point.0 < self.now.points }
+        requires fact { fact.0 < self.now.facts }
+        ensures { result ≡ least_found self.now.facts point.0 fact.0 (inner self.now) }
+    {
+        for a in 0..self.facts {
+            let cell = self.number(Spot {
+                point,
+                origin: Fact(a),
+                fact,
+            });
+            if self.is_found(cell) {
+                return Some(cell);
+            }
+        }
+        None
+    }
+}
+
+impl<S: Stage> Staged<S> {
+    // Whether a point is below N and a fact below F.
+    pub fn has_pair(&self, point: Point, fact: Fact) -> bool
+        ensures { result ≡ has_pair (state self.now) point.0 fact.0 }
+    {
+        point.0 < self.core.points && fact.0 < self.core.facts
+    }
+
+    // The number of the found cell of a pair with the least origin, if any.
+    pub fn least(&self, point: Point, fact: Fact) -> Option<u32>
+        ensures { result ≡ least (state self.now) point.0 fact.0 }
+    {
+        if self.has_pair(point, fact) {
+            self.core.least_found(point, fact)
+        } else {
+            None
+        }
+    }
+
+    // How a cell was found; none where the table has no cell of the number.
+    pub fn arrival(&self, cell: u32) -> Option<Arrival>
+        ensures { Arrives (state self.now) cell result }
+    {
+        if cell >= self.core.size {
+            return None;
+        }
+        let spot = self.core.spot(cell);
+        let record = self.core.records[cell as usize];
+        Some(Arrival {
+            kind: record.kind.unwrap_or(Kind::Start),
+            point: spot.point,
+            fact: spot.fact,
+            first: record.first,
+            second: record.second,
+        })
+    }
+}
