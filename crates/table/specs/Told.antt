@@ -7,7 +7,7 @@ use Rattle.paths.specs.Law.{LawFrom}
 use Rattle.paths.specs.Usage.{Usage}
 use Rattle.paths.specs.Machine.{both}
 use Rattle.paths.specs.Tabled.{Tabled, newly_in, work, record_at, cell_at}
-use Rattle.paths.specs.Words.{kind_of, least_found}
+use Rattle.paths.specs.Words.{least_found}
 use Rattle.paths.specs.declared.worklist.End.{End}
 use Rattle.records.specs.Faults.{number_of}
 use Rattle.records.specs.Blank.{blank}
@@ -93,14 +93,12 @@ has_pair t n d = both (nat_lt n t.points) (nat_lt d t.facts)
 abbrev pub least : Tabled → ℕ → ℕ → Option ℕ
 least t n d = cond (has_pair t n d) (least_found t.facts n d t) None
 
--- how the cell with the number c was found, as its record says
+-- where the cell with the number c is, and its record
 pub record Arrived (t : Tabled) (c : ℕ) (a : Arrival) : Type 0 where
   pub within : c < t.points * t.facts * t.facts
-  pub kind : a.kind ≡ kind_of (record_at t c).kind
   pub point : a.point.0 ≡ (cell_at t.facts c).point
   pub fact : a.fact.0 ≡ (cell_at t.facts c).fact
-  pub first : a.first ≡ (record_at t c).first
-  pub second : a.second ≡ (record_at t c).second
+  pub record_is : rec a.record ≡ record_at t c
 
 -- the same, or none where the table has no such cell
 abbrev pub Arrives : Tabled → ℕ → Option Arrival → Type 0

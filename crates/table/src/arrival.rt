@@ -1,14 +1,12 @@
 // How a cell of a table was found.
 
 use listing::numbers::{Fact, Point};
-use moves::moves::Kind;
+use records::record::Record;
 
-// The move that arrives at a cell, and the numbers of the cells from which that comes.
+// Where the move arrives that found a cell, and the cell's record.
 #[derive(Clone, Copy)]
 pub struct Arrival {
-    pub kind: Kind,
     pub point: Point,
     pub fact: Fact,
-    pub first: u32,
-    pub second: u32,
+    pub record: Record,
 }

@@ -8,7 +8,6 @@ use crate::arrival::Arrival;
 use crate::sites::Spot;
 use crate::state::{Core, Stage, Staged};
 use listing::numbers::{Fact, Point};
-use moves::moves::Kind;
 
 impl Core {
     // The number of the found cell of a pair with the least origin, if any.
@@ -58,13 +57,10 @@ impl<S: Stage> Staged<S> {
             return None;
         }
         let spot = self.core.spot(cell);
-        let record = self.core.records[cell as usize];
         Some(Arrival {
-            kind: record.kind.unwrap_or(Kind::Start),
             point: spot.point,
             fact: spot.fact,
-            first: record.first,
-            second: record.second,
+            record: self.core.records[cell as usize],
         })
     }
 }
