@@ -1,5 +1,5 @@
 -- The found cells of a pair.
-use Rattle.std.proofs.Common.{◌≡◌, ℕ, zero, suc, ◌<◌, ◌≤◌, Bool, true, false, cond, Some, None, Option, refl, ap, ◌∙◌, subst, arith, inl, inr}
+use Rattle.std.proofs.Common.{◌≡◌, ℕ, zero, suc, ◌*◌, ◌<◌, ◌≤◌, Bool, true, false, cond, Some, None, Option, refl, ap, ◌∙◌, subst, arith, inl, inr}
 use Rattle.std.proofs.lemmas.Bool.{cases_lt}
 use Rattle.std.specs.Option.{is_some}
 use Rattle.paths.specs.Table.{cell, number_of}
@@ -40,3 +40,8 @@ any_least (suc k) n d t =
 -- a pair of the table has a found cell where it has one of least origin
 pub some_least : (t : Tabled) (n d : ℕ) → has_pair t n d ≡ true → is_some (least t n d) ≡ any_found t.facts n d t
 some_least t n d e = ap (λ (b : Bool). is_some (cond b (least_found t.facts n d t) None)) e ∙ any_least t.facts n d t
+
+-- a table with a cell has a fact
+pub some_facts : (k n f : ℕ) → k ≡ n * f * f → 0 < k → 0 < f
+some_facts k n zero e some = (let z : n * zero * zero ≡ 0 = omega arith in absurd (omega arith))
+some_facts k n (suc f) e some = omega arith

@@ -1,5 +1,5 @@
 // What may be read of a table.
-ghost use Rattle.std.specs.Prelude.{◌≡◌, ◌<◌};
+ghost use Rattle.std.specs.Prelude.{◌≡◌, ◌<◌, ◌≤◌};
 ghost use Rattle.paths.specs.Words.{least_found};
 ghost use Rattle.table.specs.State.{inner, state};
 ghost use Rattle.table.specs.Told.{has_pair, least, Arrives};
@@ -31,6 +31,24 @@ impl Core {
 }
 
 impl<S: Stage> Staged<S> {
+    // N
+    pub fn points(&self) -> u16
+        ensures value { result ≡ (state self.now).points }
+        ensures few { result ≤ 1000 }
+    {
+        self.core.points
+    }
+
+    // F
+    #[tactic(auto, using(crate::proofs::Pairs::some_facts))]
+    pub fn facts(&self) -> u8
+        ensures value { result ≡ (state self.now).facts }
+        ensures some { 0 < result }
+        ensures few { result ≤ 64 }
+    {
+        self.core.facts
+    }
+
     // Whether a point is below N and a fact below F.
     pub fn has_pair(&self, point: Point, fact: Fact) -> bool
         ensures { result ≡ has_pair (state self.now) point.0 fact.0 }
