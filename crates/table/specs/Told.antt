@@ -19,11 +19,11 @@ use Rattle.table.specs.declared.state.Core.{Core}
 use Rattle.table.specs.declared.arrival.Arrival.{Arrival}
 use Rattle.records.specs.declared.tallies.Tallies.{Tallies}
 
--- the answer of sow: 1 where the cell is new, else 0
-abbrev pub sown : Result Bool Fault → Answer
-sown (Ok true) = gives 1
-sown (Ok false) = gives 0
-sown (Err f) = refuses (number_of f)
+-- the answer of a call that gives 1 for yes and 0 for no: of sow, whether the cell is new; of line, whether one was left
+abbrev pub one_if_yes : Result Bool Fault → Answer
+one_if_yes (Ok true) = gives 1
+one_if_yes (Ok false) = gives 0
+one_if_yes (Err f) = refuses (number_of f)
 
 -- the answer of work
 abbrev pub worked : Result ℕ Fault → Answer

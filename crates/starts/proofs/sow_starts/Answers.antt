@@ -2,7 +2,7 @@ use Rattle.std.proofs.Common.{◌+◌, take, drop, arith}
 use Rattle.std.proofs.lemmas.List.{drop_all, length-take}
 use Rattle.paths.specs.Handing.{handed_by}
 use Rattle.table.specs.State.{state}
-use Rattle.table.specs.Told.{sown}
+use Rattle.table.specs.Told.{one_if_yes}
 use Rattle.starts.proofs.Sowing.{front, spent, sown_more, all_sown}
 use Rattle.starts.proofs.sow_starts.Goals as goal
 
@@ -12,7 +12,7 @@ loop-i-preserved g c =
     let i = c.loop-i.i in
     let s = c.in-Some.start in
     sown_more (handed_by g.P.Program g.Q.Problem c.args.on.now) (take 255 all) (state c.args.table.now) (state c.loop-i.table) (state c.sow.new.self)
-    s (drop (i + 1) (take 255 all)) (drop i (take 255 all)) (sown c.sow.result) c.loop-i.invariant
+    s (drop (i + 1) (take 255 all)) (drop i (take 255 all)) (one_if_yes c.sow.result) c.loop-i.invariant
     (front all i 255 s (omega (arith, c.loop-i-test.true)) c.in-Some.ensures) c.sow.ensures.sows c.sow.ensures.counts
 
 pub returns-in_default : goal.returns-in_default

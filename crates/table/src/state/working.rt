@@ -7,7 +7,7 @@ ghost use Rattle.paths.specs.Table.{cell, number_of};
 ghost use Rattle.paths.specs.Tabled.{find, is_found, work};
 ghost use Rattle.table.specs.State.{inner, state, spare, Kept, Serves};
 ghost use Rattle.table.specs.Settling.{Enters};
-ghost use Rattle.table.specs.Told.{sown, worked, CountsStay, Stops, Portions};
+ghost use Rattle.table.specs.Told.{one_if_yes, worked, CountsStay, Stops, Portions};
 
 use crate::sites::{Lead, Spot};
 use crate::state::{Core, Open, Staged};
@@ -80,7 +80,7 @@ impl Staged<Open> {
         p: Proc,
         d: Fact,
     ) -> Result<bool, Fault>
-        ensures sows { Sows (handed_by P.Program Q.Problem on.now) p.0 d.0 (state self.old) (sown result) (state self.new) }
+        ensures sows { Sows (handed_by P.Program Q.Problem on.now) p.0 d.0 (state self.old) (one_if_yes result) (state self.new) }
         ensures counts { CountsStay (state self.old) (state self.new) }
         ensures refused { OnErr result (self.new ≡ self.old) }
         ensures spare { spare self.new.core ≡ spare self.old.core }

@@ -1,0 +1,9 @@
+// Reports: the pairs of a closed table, line by line on a page that is lent to each call, and the foot.
+#![tactic(auto)]
+
+mod foot;
+mod lines;
+mod pair;
+mod place;
+pub mod state;
+mod token;
