@@ -1,5 +1,5 @@
 -- The law over rows of calls, put together.
-use Rattle.std.proofs.Common.{◌≡◌, ℕ, ◌+◌, ◌<◌, Bool, true, false, cond, not, T, ltb, leb, List, ◌∷◌, ◌++◌, map, reverse, length, drop, Some, None, Option, sym, refl, ap, ◌∙◌, subst, inl, inr, zero-add, arith, ltb→lt, lt→ltb, leb→le}
+use Rattle.std.proofs.Common.{◌≡◌, ℕ, ◌+◌, ◌<◌, Bool, true, false, cond, not, T, ltb, leb, List, ◌∷◌, ◌++◌, map, reverse, length, take, drop, Some, None, Option, sym, refl, ap, ◌∙◌, subst, inl, inr, zero-add, arith, ltb→lt, lt→ltb, leb→le}
 use mathlib.Core.List.{Memᴰ}
 use lib.Dec.{nleb→lt}
 use Rattle.std.proofs.lemmas.List.{length-map, length-reverse, take_at}
@@ -45,19 +45,17 @@ module _ (H : Handed) (sound : Sound H) (first : Tabled) (at_first : Mirror H.po
   holds_after {calls} {s} w = after P Q N H.procs F sound.lawful sound.bounded (mode_in s) w.state (accepted calls) w.row
 
   reported : (calls : List Call) (k : ℕ) (page page' : List ℕ) (s : State) → Row H first (Foot page (gives k) page' ∷ calls) s → OnePage calls page
-      → Reported H (accepted calls) page'
+      → Reported H (accepted calls) (take k page')
   reported calls k page page' s row one =
       let (r, before, does) = latest row in
       let w : Stands H calls (Begun r) = stands H sound at_first before in
       let all = holds_after w in
       let p : Paged r page = pages before page one in
-      let (rest, text) = foot_page r k page page' s does p in
       let same : pairs_of r.table ≡ rows.pairs_below F N w.state = pairs_same N F r.table w.state w.mirror in
       record {
         pairs = pairs_of r.table;
         cells = r.table.settled;
-        rest = rest;
-        text = text;
+        tells = foot_page r k page page' s does p;
         ascending = subst rows.Ascending (sym same) all.order;
         exact = λ n d.
             let both_ways = all.lines tt n d in

@@ -82,11 +82,11 @@ line_written (x ∷ xs) place size new e = go (leb (place + length (line_text x)
     go false h e' = let z : ◌≡◌ {A = ℕ} 0 1 = cc in absurd (omega arith)
 
 -- a foot that is given is written
-foot_written : (b b' : Bool) (text : List ℕ) (k : ℕ) → gives k ≡ foot_answer (cond b (fitting b' text) (no 16))
-    → T b × T b' × (cond b (fitting b' text) (no 16) ≡ writes text)
-foot_written true true text k e = (tt, tt, refl)
-foot_written true false text k e = let z : ◌≡◌ {A = ℕ} 0 1 = cc in absurd (omega arith)
-foot_written false b' text k e = let z : ◌≡◌ {A = ℕ} 0 1 = cc in absurd (omega arith)
+foot_written : (b b' : Bool) (text : List ℕ) (place k : ℕ) → gives k ≡ foot_answer (cond b (fitting b' text) (no 16)) place
+    → T b × T b' × (k ≡ place + length text) × (cond b (fitting b' text) (no 16) ≡ writes text)
+foot_written true true text place k e = (tt, tt, cc, refl)
+foot_written true false text place k e = let z : ◌≡◌ {A = ℕ} 0 1 = cc in absurd (omega arith)
+foot_written false b' text place k e = let z : ◌≡◌ {A = ℕ} 0 1 = cc in absurd (omega arith)
 
 -- THE PAGE
 
@@ -124,7 +124,7 @@ line_pages calls r page (writes new) e ih = λ now one.
     })
 
 foot_pages : (calls : List Call) (r : Report) (page page' : List ℕ) (turn : Turn) → foot_turn r page ≡ turn → Pages calls (Begun r)
-    → Pages (Foot page (foot_answer turn) page' ∷ calls) (foot_after turn r)
+    → Pages (Foot page (foot_answer turn r.place) page' ∷ calls) (foot_after turn r)
 foot_pages calls r page page' (no q) e ih = ih
 foot_pages calls r page page' nothing_left e ih = λ now one. absurd one
 foot_pages calls r page page' (writes new) e ih = tt
@@ -148,19 +148,17 @@ pages (footed {calls} {r} {s} {page} {page'} {answer} row does) =
 pages (abandoned row) = tt
 pages (trailed row does) = tt
 
--- the page of a report that got its foot
+-- the page of a report that got its foot, up to its end
 pub foot_page : (r : Report) (k : ℕ) (page page' : List ℕ) (s : State) → Foots r page (gives k) page' s → Paged r page
-    → (rest : List ℕ) × (page' ≡ (lines_text (pairs_of r.table) ++ foot_text (length (pairs_of r.table)) r.table.settled) ++ rest)
+    → take k page' ≡ lines_text (pairs_of r.table) ++ foot_text (length (pairs_of r.table)) r.table.settled
 foot_page r k page page' s does p =
     let pairs = pairs_of r.table in
     let foot = foot_text r.lines r.table.settled in
-    let w = foot_written (eqb r.lines (length pairs)) (leb (r.place + length foot) (length page)) foot k does.answers in
+    let w = foot_written (eqb r.lines (length pairs)) (leb (r.place + length foot) (length page)) foot r.place k does.answers in
     let all : r.lines ≡ length pairs = eqb→eq r.lines (length pairs) w.0 in
-    let rest = drop (r.place + length foot) page in (
-      rest,
-      does.holds
-          ∙ ap (λ (x : Turn). memory_by x r.place page) w.2
-          ∙ ap (λ (x : List ℕ). x ++ (foot ++ rest)) (p.text ∙ ap lines_text (take_all r.lines pairs (omega arith)))
-          ∙ sym (append_assoc (lines_text pairs) foot rest)
-          ∙ ap (λ (R : ℕ). (lines_text pairs ++ foot_text R r.table.settled) ++ rest) all,
-    )
+    let fits : r.place + length foot ≤ length page = leb→le (r.place + length foot) (length page) w.1 in
+    ap (λ (n : ℕ). take n page') w.2
+    ∙ ap (take (r.place + length foot)) (does.holds ∙ ap (λ (x : Turn). memory_by x r.place page) w.3)
+    ∙ take_put r.place foot page fits
+    ∙ ap (λ (x : List ℕ). x ++ foot) (p.text ∙ ap lines_text (take_all r.lines pairs (omega arith)))
+    ∙ ap (λ (R : ℕ). lines_text pairs ++ foot_text R r.table.settled) all

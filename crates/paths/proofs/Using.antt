@@ -1,5 +1,5 @@
 -- What a caller may carry from call to call leads to the law.
-use Rattle.std.proofs.Common.{ℕ, List, [], ◌∷◌, sym, refl, ap, subst}
+use Rattle.std.proofs.Common.{ℕ, List, [], ◌∷◌, take, sym, refl, ap, subst}
 use Rattle.paths.specs.Tabled.{Tabled}
 use Rattle.paths.specs.Does.{Handed, Answer, Turn, no, nothing_left, writes, memory_by, line_turn, line_answer, Call, Line, Newly, not_yet_called, sown, worked, closed, begun_on, lined, footed, trailed}
 use Rattle.paths.specs.Law.{OnePage, Reported, Told, Sound}
@@ -31,7 +31,7 @@ usage H sound first new = record {
   };
   footed = λ starts r s' k page page' s does.
       let row = footed s.row does in (
-        subst (λ (xs : List (ℕ × ℕ)). Reported H xs page') s.starts_are
+        subst (λ (xs : List (ℕ × ℕ)). Reported H xs (take k page')) s.starts_are
             ((the_law H sound first new _ s' row).reports [] s.calls k page page' refl s.one),
         record { calls = _; row = row; starts_are = s.starts_are },
       );

@@ -149,11 +149,11 @@ foot_turn r page =
     let text = foot_text r.lines r.table.settled in
     cond (r.lines == length (pairs_of r.table)) (fitting (nat_le (r.place + length text) (length page)) text) (no 16)
 
--- what foot answers
-abbrev pub foot_answer : Turn → Answer
-foot_answer (no q) = refuses q
-foot_answer nothing_left = gives 0
-foot_answer (writes new) = gives 0
+-- what foot answers: the place after it
+abbrev pub foot_answer : Turn → ℕ → Answer
+foot_answer (no q) place = refuses q
+foot_answer nothing_left place = gives place
+foot_answer (writes new) place = gives (place + length new)
 
 -- what foot leaves
 abbrev pub foot_after : Turn → Report → State
@@ -163,7 +163,7 @@ foot_after (writes new) r = Closed r.table
 
 -- what foot answers, writes and leaves
 pub record Foots (before : Report) (page : List ℕ) (answer : Answer) (page' : List ℕ) (after : State) : Type 0 where
-  pub answers : answer ≡ foot_answer (foot_turn before page)
+  pub answers : answer ≡ foot_answer (foot_turn before page) before.place
   pub holds : page' ≡ memory_by (foot_turn before page) before.place page
   pub leaves : after ≡ foot_after (foot_turn before page) before
 

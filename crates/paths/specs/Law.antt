@@ -50,13 +50,12 @@ module _ (H : Handed) (starts : List (ℕ × ℕ)) where
   abbrev pub Reached : ℕ → ℕ → Type 0
   Reached n d = ReachedPair H.graph H.rule (Accepted starts) n d
 
-  -- the page is the lines of the reached pairs, by point and then fact, then the foot with their number and the number of the
-  -- reached cells, and what was there before
-  pub record Reported (page : List ℕ) : Type 0 where
+  -- the text is the lines of the reached pairs, by point and then fact, then the foot with their number and the number of the
+  -- reached cells
+  pub record Reported (text : List ℕ) : Type 0 where
     pub pairs : List (ℕ × ℕ)
     pub cells : ℕ
-    pub rest : List ℕ
-    pub text : page ≡ (lines_text pairs ++ foot_text (length pairs) cells) ++ rest
+    pub tells : text ≡ lines_text pairs ++ foot_text (length pairs) cells
     pub ascending : Ascending pairs
     pub exact : (n d : ℕ) → Memᴰ (n, d) pairs ↔ Reached n d
     pub counted : Number (λ c. ReachedCell H.graph H.rule (Accepted starts) c.point c.origin c.fact) cells
@@ -96,11 +95,11 @@ table_in (Open t) = t
 table_in (Closed t) = t
 table_in (Begun r) = r.table
 
--- the law of a row: of each foot in it that was given, and of each trail
+-- the law of a row: of each foot in it that was given, up to whose end the page is such a text, and of each trail
 pub record Law (H : Handed) (calls : List Call) (s : State) : Type 0 where
   pub tally : (table_in s).found ≡ (table_in s).settled + length (table_in s).waiting
-  pub reports : (later earlier : List Call) (k : ℕ) (page page' : List ℕ) → calls ≡ later ++ (Foot page (gives k) page' ∷ earlier)
-      → OnePage earlier page → Reported H (accepted earlier) page'
+  pub reports : (later earlier : List Call) (end : ℕ) (page page' : List ℕ) → calls ≡ later ++ (Foot page (gives end) page' ∷ earlier)
+      → OnePage earlier page → Reported H (accepted earlier) (take end page')
   pub trails : (later earlier : List Call) (n d room : ℕ) (answer : Answer) (memory memory' : List ℕ)
       → calls ≡ later ++ (Trail n d memory room answer memory' ∷ earlier) → Told H (accepted earlier) n d answer memory room memory'
 

@@ -1,5 +1,5 @@
 -- How a caller comes to the law: what it may carry from call to call, as a loop's invariant does.
-use Rattle.std.specs.Prelude.{◌≡◌, ℕ, List, [], ◌∷◌}
+use Rattle.std.specs.Prelude.{◌≡◌, ℕ, List, [], ◌∷◌, take}
 use Rattle.paths.specs.declared.worklist.End.{End}
 use Rattle.paths.specs.Tabled.{Tabled}
 use Rattle.paths.specs.Does.{Handed, Answer, gives, Report, State, Open, Closed, Begun, begun, Sows, Works, Closes, Lines, Foots, Trails, Call, Newly, Row}
@@ -30,8 +30,8 @@ pub record Usage (H : Handed) (first : Tabled) : Type 0 where
   pub begins : (starts : List (ℕ × ℕ)) (t : Tabled) (page : List ℕ) → Standing H first starts (Closed t) → OnPage H first starts (begun t) page
   pub lined : (starts : List (ℕ × ℕ)) (r r' : Report) (answer : Answer) (page page' : List ℕ) → OnPage H first starts r page
       → Lines r page answer page' r' → OnPage H first starts r' page'
-  pub footed : (starts : List (ℕ × ℕ)) (r : Report) (s : State) (k : ℕ) (page page' : List ℕ) → OnPage H first starts r page
-      → Foots r page (gives k) page' s → Reported H starts page' × Standing H first starts s
+  pub footed : (starts : List (ℕ × ℕ)) (r : Report) (s : State) (end : ℕ) (page page' : List ℕ) → OnPage H first starts r page
+      → Foots r page (gives end) page' s → Reported H starts (take end page') × Standing H first starts s
   pub trailed : (starts : List (ℕ × ℕ)) (t : Tabled) (n d room : ℕ) (answer : Answer) (memory memory' : List ℕ) → Standing H first starts (Closed t)
       → Trails t n d memory room answer memory' → Told H starts n d answer memory room memory'
 

@@ -19,6 +19,6 @@ feet r page page' settled o all same p =
 -- a foot that is given keeps the law
 pub keeps : (r : Report) (page page' : List ℕ) (answer : Answer) (after : State) → Foots r page answer page' after → KeepsLaw r page answer page' after
 keeps r page page' answer after f = record {
-  law = λ k e H sound first newly starts on.
-      (usage H sound first newly).footed starts r after k page page' on (subst (λ (x : Answer). Foots r page x page' after) e f);
+  law = λ end e H sound first newly starts on.
+      (usage H sound first newly).footed starts r after end page page' on (subst (λ (x : Answer). Foots r page x page' after) e f);
 }

@@ -1,5 +1,5 @@
 -- What the calls of a report answer and leave, in the words in which rows of calls speak of them.
-use Rattle.std.specs.Prelude.{◌≡◌, ℕ, ◌+◌, ◌*◌, ◌<◌, ◌≤◌, List, [], ◌∷◌, suc, length, drop, Ok, Err, Some, None, Option, Result, nat_le}
+use Rattle.std.specs.Prelude.{◌≡◌, ℕ, ◌+◌, ◌*◌, ◌<◌, ◌≤◌, List, [], ◌∷◌, suc, length, take, drop, Ok, Err, Some, None, Option, Result, nat_le}
 use Rattle.paths.specs.Does.{Answer, gives, refuses, State, Closed, Begun, Turn, no, writes, fitting, foot_turn, Handed, Newly}
 use Rattle.paths.specs.Does as does
 use Rattle.paths.specs.Law.{Reported, Sound}
@@ -59,7 +59,7 @@ Feet r page o page' = Writing (foot_turn r page) (foot_text r.lines r.table.sett
 module _ {S : Type 0} {stage : Stage S} where
   -- the answer of foot, and the state that it leaves
   abbrev pub footed : Result (Footed S stage) (Refusal (Report S stage)) → Answer
-  footed (Ok f) = gives 0
+  footed (Ok f) = gives f.end
   footed (Err e) = refuses (number_of e.fault)
 
   abbrev pub left_footed : Result (Footed S stage) (Refusal (Report S stage)) → State
@@ -71,14 +71,9 @@ module _ {S : Type 0} {stage : Stage S} where
   GivesBack r (Ok f) = f.table ≡ r.table
   GivesBack r (Err e) = e.back ≡ r
 
-  -- the place after the foot
-  abbrev pub Ends : does.Report → Result (Footed S stage) (Refusal (Report S stage)) → Type 0
-  Ends r (Ok f) = f.end ≡ r.place + length (foot_text r.lines r.table.settled)
-  Ends r (Err e) = Unit {0}
-
 -- what a foot promises whoever comes to it by a row of calls, from a newly opened table on, with one program and one problem, on one page
--- that nothing else wrote since the report began: the page tells the pairs that call-matched paths reach from the accepted starts, and no
--- others, then their number and that of the reached cells; and the row goes on from there
+-- that nothing else wrote since the report began: up to the foot's end the page tells the pairs that call-matched paths reach from the
+-- accepted starts, and no others, then their number and that of the reached cells; and the row goes on from there
 pub record KeepsLaw (r : does.Report) (page : List ℕ) (answer : Answer) (page' : List ℕ) (after : State) : Type 0 where
-  pub law : (k : ℕ) → answer ≡ gives k → (H : Handed) → Sound H → (first : Tabled) → Newly H first → (starts : List (ℕ × ℕ))
-      → OnPage H first starts r page → Reported H starts page' × Standing H first starts after
+  pub law : (end : ℕ) → answer ≡ gives end → (H : Handed) → Sound H → (first : Tabled) → Newly H first → (starts : List (ℕ × ℕ))
+      → OnPage H first starts r page → Reported H starts (take end page') × Standing H first starts after

@@ -3,7 +3,7 @@ ghost use Rattle.std.specs.Prelude.{◌≡◌, IfOk};
 ghost use Rattle.paths.specs.Does.{Foots, Closed};
 ghost use Rattle.paths.specs.Page.{foot_text};
 ghost use Rattle.table.specs.State.{state};
-ghost use Rattle.report.specs.Told.{reported, footed, left_footed, Feet, GivesBack, Ends, KeepsLaw};
+ghost use Rattle.report.specs.Told.{reported, footed, left_footed, Feet, GivesBack, KeepsLaw};
 
 use crate::place::put_foot;
 use crate::state::{Footed, Report};
@@ -28,7 +28,6 @@ impl<S: Stage> Report<S> {
     pub fn foot(self, page: &mut [u8]) -> Result<Footed<S>, Refusal<Report<S>>>
         ensures foots { Foots (reported self) page.old (footed result) page.new (left_footed result) }
         ensures back { GivesBack self result }
-        ensures end { Ends (reported self) result }
         ensures law { KeepsLaw (reported self) page.old (footed result) page.new (left_footed result) }
     {
         match self.put_foot(page) {
