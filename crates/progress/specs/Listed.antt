@@ -2,18 +2,13 @@
 use Rattle.std.specs.Prelude.{ℕ, List, Result}
 use Rattle.listing.specs.Meaning.{Meaning}
 use Rattle.draft.specs.declared.question.Refusal.{Refusal}
-use Rattle.flow.specs.CellFacts.{facts_in}
-use Rattle.flow.specs.Choices.{rule_of, starts_of}
+use Rattle.flow.specs.Choices.{starts_of}
 use Rattle.flow.specs.declared.choice.Choice.{Choice}
-use Rattle.paths.specs.Does.{Handed, handed}
+use Rattle.paths.specs.Handing.{posed}
 use Rattle.paths.specs.declared.worklist.End.{End}
 use Rattle.text.specs.Reading.{reading}
 use Rattle.text.specs.Telling.{told_by, HoldsBy}
 use Rattle.progress.specs.Progress.{progress, EndsCounted}
-
--- a program and a problem about g globals and l locals
-abbrev pub posed : Choice → ℕ → ℕ → Meaning → Handed
-posed choice g l m = handed m (rule_of choice g l) (facts_in g l)
 
 abbrev pub told_in : Choice → ℕ → ℕ → Meaning → ℕ → End → List ℕ
 told_in choice g l m k from = progress (posed choice g l m) (starts_of choice g l) k from
