@@ -1,1 +1,2 @@
 pub mod Sowing
+pub mod Defaults

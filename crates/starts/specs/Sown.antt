@@ -27,6 +27,11 @@ abbrev pub accepted_all : Handed → List Start → Tabled → List (ℕ × ℕ)
 accepted_all h [] t before = before
 accepted_all h (s ∷ ss) t before = accepted_all h ss (sown_one h s t) (accepted_by (start_no h s t) s before)
 
+-- starts as rows of calls tell them, the latest first
+abbrev pub latest_first : List Start → List (ℕ × ℕ) → List (ℕ × ℕ)
+latest_first [] before = before
+latest_first (s ∷ ss) before = latest_first ss ((s.procedure.0, s.fact.0) ∷ before)
+
 -- where a row of calls led to the table before, one leads to the table after, and has accepted these starts besides
 pub record Carries (h : Handed) (ss : List Start) (before after : Tabled) : Type 0 where
   pub row : (first : Tabled) (accepted : List (ℕ × ℕ)) → Standing h first accepted (Open before) → Standing h first (accepted_all h ss before accepted) (Open after)
