@@ -13,11 +13,11 @@ use Rattle.paths.specs.Memory as memory
 use Rattle.paths.specs.Tabled.{Tabled, newly_in}
 use Rattle.records.specs.Blank.{blank}
 use Rattle.records.specs.declared.record.Record.{Record}
-use Rattle.starts.specs.Sown.{sown_all, accepted_all, Carries}
+use Rattle.starts.specs.Sown.{sown_all, Carries}
 use Rattle.table.specs.State.{rec}
 use Rattle.table.specs.Told.{CountsStay}
 use Rattle.table.proofs.Opens.{blank_records}
-use Rattle.progress.specs.Progress.{first_of, cells_line, EndsCounted}
+use Rattle.progress.specs.Progress.{first_of, accepted_of, cells_line, EndsCounted}
 use Rattle.progress.specs.Told.{Seeded}
 
 module _ (h : Handed) (cells : ℕ) (rs : List Record) (size : cells ≡ h.points * h.facts * h.facts) (all : rs ≡ replicate cells blank) where
@@ -50,14 +50,14 @@ module _ (h : Handed) (cells : ℕ) (rs : List Record) (size : cells ≡ h.point
 -- a table that is closed then has settled as many cells as are reached
 pub counted : (h : Handed) (starts : List Start) (t u : Tabled) (before : List ℕ) (count : ℕ) (text : List ℕ) → Seeded h starts t
     → ((first : Tabled) (accepted : List (ℕ × ℕ)) → Standing h first accepted (Open t) → Standing h first accepted (Open u))
-    → Closes u (gives 0) (Closed u) → count ≡ u.settled → text ≡ before ++ cells_line count → EndsCounted h starts text
+    → Closes u (gives 0) (Closed u) → count ≡ u.settled → text ≡ before ++ cells_line count → EndsCounted h (accepted_of h starts) text
 counted h starts t u before count text s row closes number is =
-    let st = row (first_of h) (accepted_all h (take 255 starts) (first_of h) []) s.stands in
+    let st = row (first_of h) (accepted_of h starts) s.stands in
     let e = s.exact (Close (gives 0) ∷ st.calls) u (closed st.row closes) in
     let f = subst (λ (xs : List (ℕ × ℕ)). Exactly h xs u) st.starts_are e in
     record {
       before = before;
       cells = count;
       text_is = is;
-      counted = subst (λ (n : ℕ). Number (λ c. ReachedCell h.graph h.rule (Accepted (accepted_all h (take 255 starts) (first_of h) [])) c.point c.origin c.fact) n) (sym number) f.number;
+      counted = subst (λ (n : ℕ). Number (λ c. ReachedCell h.graph h.rule (Accepted (accepted_of h starts)) c.point c.origin c.fact) n) (sym number) f.number;
     }

@@ -1,5 +1,5 @@
 -- What is told of a listing that is tabulated in portions.
-use Rattle.std.specs.Prelude.{ℕ, List, Result}
+use Rattle.std.specs.Prelude.{ℕ, List, [], Result}
 use Rattle.listing.specs.Meaning.{Meaning}
 use Rattle.draft.specs.declared.question.Refusal.{Refusal}
 use Rattle.flow.specs.Choices.{starts_of}
@@ -8,20 +8,19 @@ use Rattle.paths.specs.Handing.{posed}
 use Rattle.paths.specs.declared.worklist.End.{End}
 use Rattle.text.specs.Reading.{reading}
 use Rattle.text.specs.Telling.{told_by, HoldsBy}
+use Rattle.starts.specs.Sown.{latest_first}
 use Rattle.progress.specs.Progress.{progress, EndsCounted}
 
 abbrev pub told_in : Choice → ℕ → ℕ → Meaning → ℕ → End → List ℕ
 told_in choice g l m k from = progress (posed choice g l m) (starts_of choice g l) k from
 
-abbrev pub CountedIn : Choice → ℕ → ℕ → Meaning → List ℕ → Type 0
-CountedIn choice g l m text = EndsCounted (posed choice g l m) (starts_of choice g l) text
-
 -- what is told of a program, under a problem about its cells
 abbrev pub chosen : Choice → Meaning → ℕ → End → List ℕ
 chosen choice m k from = told_in choice m.globals m.locals m k from
 
+-- the last line tells how many cells are reached from the default starts, all of them
 abbrev pub ChosenCounted : Choice → Meaning → List ℕ → Type 0
-ChosenCounted choice m text = CountedIn choice m.globals m.locals m text
+ChosenCounted choice m text = EndsCounted (posed choice m.globals m.locals m) (latest_first (starts_of choice m.globals m.locals) []) text
 
 -- a refused listing gives `refused k at j` alone
 abbrev pub over_read : Result Meaning Refusal → Choice → ℕ → End → List ℕ

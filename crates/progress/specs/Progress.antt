@@ -54,9 +54,13 @@ cells_line n = codes "cells " ++ (decimal n ++ (10 ∷ []))
 abbrev pub progress : Handed → List Start → ℕ → End → List ℕ
 progress h starts k end = lines (enough h) h k end (seeded h starts) ++ cells_line (last (enough h) h k end (seeded h starts)).settled
 
--- the last line tells how many cells are reached from those of the default starts that are accepted
-pub record EndsCounted (h : Handed) (starts : List Start) (text : List ℕ) : Type 0 where
+-- those of the default starts that are accepted in a table newly opened, the latest first
+abbrev pub accepted_of : Handed → List Start → List (ℕ × ℕ)
+accepted_of h starts = accepted_all h (take 255 starts) (first_of h) []
+
+-- the last line tells how many cells are reached from these starts
+pub record EndsCounted (h : Handed) (starts : List (ℕ × ℕ)) (text : List ℕ) : Type 0 where
   pub before : List ℕ
   pub cells : ℕ
   pub text_is : text ≡ before ++ cells_line cells
-  pub counted : Number (λ c. ReachedCell h.graph h.rule (Accepted (accepted_all h (take 255 starts) (first_of h) [])) c.point c.origin c.fact) cells
+  pub counted : Number (λ c. ReachedCell h.graph h.rule (Accepted starts) c.point c.origin c.fact) cells

@@ -4,7 +4,7 @@ ghost use Rattle.records.specs.Blank.{blank};
 ghost use Rattle.paths.specs.Does.{gives, Closed, Closes};
 ghost use Rattle.paths.specs.Handing.{handed_by};
 ghost use Rattle.table.specs.State.{state, Serves};
-ghost use Rattle.progress.specs.Progress.{enough, progress, EndsCounted};
+ghost use Rattle.progress.specs.Progress.{accepted_of, enough, progress, EndsCounted};
 ghost use Rattle.progress.specs.Told.{Seeded, WorkedOff};
 
 use crate::portion::Pace;
@@ -80,7 +80,7 @@ fn tell_all<P: Program, Q: Problem>(
 ) -> Result<String, AllocError>
     requires { Seeded (handed_by P.Program Q.Problem on.now) (Q.starts on.now.problem.now) (state table) }
     ensures text { IfOk result (λ s. string_bytes s ≡ progress (handed_by P.Program Q.Problem on.now) (Q.starts on.now.problem.now) pace.portion.size pace.from) }
-    ensures law { IfOk result (λ s. EndsCounted (handed_by P.Program Q.Problem on.now) (Q.starts on.now.problem.now) (string_bytes s)) }
+    ensures law { IfOk result (λ s. let h = handed_by P.Program Q.Problem on.now in EndsCounted h (accepted_of h (Q.starts on.now.problem.now)) (string_bytes s)) }
 {
     let mut out = work_off(heap, &mut table, on, pace)?;
     let count = settled_cells(table);
@@ -95,7 +95,7 @@ pub fn tabulate<P: Program, Q: Problem>(
     pace: Pace,
 ) -> Result<String, AllocError>
     ensures text { IfOk result (λ s. string_bytes s ≡ progress (handed_by P.Program Q.Problem on.now) (Q.starts on.now.problem.now) pace.portion.size pace.from) }
-    ensures law { IfOk result (λ s. EndsCounted (handed_by P.Program Q.Problem on.now) (Q.starts on.now.problem.now) (string_bytes s)) }
+    ensures law { IfOk result (λ s. let h = handed_by P.Program Q.Problem on.now in EndsCounted h (accepted_of h (Q.starts on.now.problem.now)) (string_bytes s)) }
 {
     let table = seeded(heap, on)?;
     tell_all(heap, table, on, pace)

@@ -15,7 +15,7 @@ returns-in-Unset g c =
       text = IfOk-weaker c.tabulate.result _ (λ s. string_bytes s ≡ chosen t.choice m t.pace.portion.size t.pace.from)
           (λ s. chosen_text t.choice Unset c.in-Unset.is m n.globals n.locals e.globals e.locals (string_bytes s) t.pace.portion.size t.pace.from) c.tabulate.ensures.text;
       law = IfOk-weaker c.tabulate.result _ (λ s. ChosenCounted t.choice m (string_bytes s))
-          (λ s. chosen_counted t.choice Unset c.in-Unset.is m n.globals n.locals e.globals e.locals (string_bytes s)) c.tabulate.ensures.law;
+          (λ s. chosen_counted t.choice Unset c.in-Unset.is m n.globals n.locals e.globals e.locals (string_bytes s) (g.P.Program.lawful c.args.program.now)) c.tabulate.ensures.law;
     }
 
 pub returns-in-Raw : goal.returns-in-Raw
@@ -28,5 +28,5 @@ returns-in-Raw g c =
       text = IfOk-weaker c.tabulate-in-Raw.result _ (λ s. string_bytes s ≡ chosen t.choice m t.pace.portion.size t.pace.from)
           (λ s. chosen_text t.choice Raw c.in-Raw.is m n.globals n.locals e.globals e.locals (string_bytes s) t.pace.portion.size t.pace.from) c.tabulate-in-Raw.ensures.text;
       law = IfOk-weaker c.tabulate-in-Raw.result _ (λ s. ChosenCounted t.choice m (string_bytes s))
-          (λ s. chosen_counted t.choice Raw c.in-Raw.is m n.globals n.locals e.globals e.locals (string_bytes s)) c.tabulate-in-Raw.ensures.law;
+          (λ s. chosen_counted t.choice Raw c.in-Raw.is m n.globals n.locals e.globals e.locals (string_bytes s) (g.P.Program.lawful c.args.program.now)) c.tabulate-in-Raw.ensures.law;
     }
