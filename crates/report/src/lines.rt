@@ -1,5 +1,6 @@
 // Beginning a report, and its lines.
-ghost use Rattle.std.specs.Prelude.{◌≡◌, true};
+ghost use Rattle.std.specs.Prelude.{◌≡◌, true, false, length, Ok};
+ghost use Rattle.paths.specs.Page.{pairs_of};
 ghost use Rattle.paths.specs.Does.{begun, Lines};
 ghost use Rattle.table.specs.State.{state};
 ghost use Rattle.table.specs.Told.{one_if_yes};
@@ -50,7 +51,8 @@ impl<S: Stage> Report<S> {
 
     // Writes the next line at the page's next free place: whether one was left.
     pub fn line(&mut self, page: &mut [u8]) -> Result<bool, Fault>
-        ensures { Lines (reported self.old) page.old (one_if_yes result) page.new (reported self.new) }
+        ensures lines { Lines (reported self.old) page.old (one_if_yes result) page.new (reported self.new) }
+        ensures all { result ≡ Ok false → (reported self.new).lines ≡ length (pairs_of (reported self.new).table) }
     {
         let Some(pair) = self.next_pair() else {
             return Ok(false);

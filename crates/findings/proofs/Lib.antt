@@ -1,0 +1,5 @@
+pub mod Turns
+pub mod Carried
+pub mod Whole
+pub mod Ascii
+pub mod Settling

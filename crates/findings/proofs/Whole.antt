@@ -1,0 +1,78 @@
+-- The page of a whole report.
+use Rattle.std.proofs.Common.{◌≡◌, ℕ, ◌+◌, ◌<◌, ◌≤◌, Bool, true, false, List, ◌++◌, length, take, drop, refl, sym, ap, ◌∙◌, arith, leb, ◌==◌}
+use Rattle.std.proofs.lemmas.Bool.{cond-true, eq-eqb, leb-true, leb-false}
+use Rattle.std.proofs.lemmas.List.{length-append, length-take-le, take_all, take-append-drop}
+use Rattle.std.proofs.lemmas.List.Concat.{flat_map-append}
+use Rattle.paths.specs.Does.{Handed, gives, refuses, Report, State, Turn, no, fitting, foot_turn, foot_answer, memory_by, Foots, begun, Closed}
+use Rattle.paths.specs.Page.{pairs_of, line_text, lines_text, foot_text}
+use Rattle.paths.specs.Tabled.{Tabled}
+use Rattle.paths.proofs.Pages.{Paged, pages}
+use Rattle.records.specs.declared.fault.Fault.{Fault}
+use Rattle.findings.specs.Report.{report_text, Led, Underway, Late}
+use Rattle.findings.proofs.Turns.{same_size}
+
+-- a report that is begun is under way
+pub begins : (h : Handed) (starts : List (ℕ × ℕ)) (t : Tabled) (page : List ℕ) → Led h starts (Closed t) → Underway h starts (begun t) page
+begins h starts t page led = record { first = led.first; usage = led.usage; on = led.usage.begins starts t page led.stands }
+
+-- the page up to the report's place is the lines written so far
+pub paged : (h : Handed) (starts : List (ℕ × ℕ)) (r : Report) (page : List ℕ) → Underway h starts r page → Paged r page
+paged h starts r page u = pages u.on.row page u.on.one
+
+place_is : (r : Report) (page : List ℕ) → Paged r page → r.place ≡ length (lines_text (take r.lines (pairs_of r.table)))
+place_is r page p = sym (length-take-le r.place page p.room) ∙ ap length p.text
+
+text_length : (t : Tabled) → length (report_text t) ≡ length (lines_text (pairs_of t)) + length (foot_text (length (pairs_of t)) t.settled)
+text_length t = length-append (lines_text (pairs_of t)) (foot_text (length (pairs_of t)) t.settled)
+
+-- a line that does not fit: nor does the report
+pub late_line : (f : Fault) (r : Report) (page : List ℕ) → Paged r page → Late f r page → length page < length (report_text r.table)
+late_line f r page p l =
+    let pairs = pairs_of r.table in
+    let here = place_is r page p in
+    let split : lines_text pairs ≡ lines_text (take r.lines pairs) ++ lines_text (drop r.lines pairs) =
+    ap lines_text (sym (take-append-drop r.lines pairs)) ∙ flat_map-append line_text (take r.lines pairs) (drop r.lines pairs) in
+    let a : length (lines_text pairs) ≡ length (lines_text (take r.lines pairs)) + length (lines_text (drop r.lines pairs)) =
+    ap length split ∙ length-append (lines_text (take r.lines pairs)) (lines_text (drop r.lines pairs)) in
+    let b : length (lines_text (drop r.lines pairs)) ≡ length (line_text l.pair) + length (lines_text l.others) =
+    ap (λ (xs : List (ℕ × ℕ)). length (lines_text xs)) l.next ∙ length-append (line_text l.pair) (lines_text l.others) in
+    let c = text_length r.table in
+    let d = l.full in
+    omega arith
+
+module _ (r : Report) (page page' : List ℕ) (s : State) (p : Paged r page) (all : r.lines ≡ length (pairs_of r.table)) where
+  abbrev foot : List ℕ
+  foot = foot_text r.lines r.table.settled
+
+  turn : foot_turn r page ≡ fitting (leb (r.place + length foot) (length page)) foot
+  turn = cond-true {A = Turn} (r.lines == length (pairs_of r.table)) (fitting (leb (r.place + length foot) (length page)) foot) (no 16) (eq-eqb r.lines (length (pairs_of r.table)) all)
+
+  here : r.place ≡ length (lines_text (pairs_of r.table))
+  here = place_is r page p ∙ ap (λ (xs : List (ℕ × ℕ)). length (lines_text xs)) (take_all r.lines (pairs_of r.table) (omega arith))
+
+  foot_size : length foot ≡ length (foot_text (length (pairs_of r.table)) r.table.settled)
+  foot_size = ap (λ (n : ℕ). length (foot_text n r.table.settled)) all
+
+  -- a foot that does not fit: nor does the report
+  pub late_foot : (q : ℕ) → Foots r page (refuses q) page' s → (q ≡ 17) × (length page < length (report_text r.table))
+  late_foot q does = go (leb (r.place + length foot) (length page)) refl (does.answers ∙ ap (λ (x : Turn). foot_answer x r.place) turn)
+    where
+      go : (b : Bool) → leb (r.place + length foot) (length page) ≡ b → refuses q ≡ foot_answer (fitting b foot) r.place → (q ≡ 17) × (length page < length (report_text r.table))
+      go true same e = let z : ◌≡◌ {A = ℕ} 0 1 = cc in absurd (omega arith)
+      go false same e =
+          let short = leb-false (r.place + length foot) (length page) same in
+          let c = text_length r.table in
+          (cc, omega (arith, here, foot_size))
+
+  -- a foot that is given ends on the page, whose length stays
+  pub foot_ends : (k : ℕ) → Foots r page (gives k) page' s → (k ≤ length page') × (length page' ≡ length page)
+  foot_ends k does = go (leb (r.place + length foot) (length page)) refl (does.answers ∙ ap (λ (x : Turn). foot_answer x r.place) turn) (does.holds ∙ ap (λ (x : Turn). memory_by x r.place page) turn)
+    where
+      go : (b : Bool) → leb (r.place + length foot) (length page) ≡ b → gives k ≡ foot_answer (fitting b foot) r.place → page' ≡ memory_by (fitting b foot) r.place page
+          → (k ≤ length page') × (length page' ≡ length page)
+      go true same e holds =
+          let fits = leb-true (r.place + length foot) (length page) same in
+          let k_is : k ≡ r.place + length foot = cc in
+          let len : length page' ≡ length page = ap length holds ∙ same_size r.place foot page fits in
+          (omega arith, len)
+      go false same e holds = let z : ◌≡◌ {A = ℕ} 0 1 = cc in absurd (omega arith)
