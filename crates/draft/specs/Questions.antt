@@ -1,5 +1,6 @@
 -- The numbers of the questions, and how a refusal is told.
-use Rattle.std.specs.Prelude.{ℕ, List, ◌++◌, codes, decimal}
+use Rattle.std.specs.Prelude.{ℕ, List}
+use Rattle.listing.specs.Refusals.{refused_text}
 use Rattle.draft.specs.declared.question.Question.{Question}
 use Rattle.draft.specs.declared.question.Refusal.{Refusal}
 use Rattle.draft.specs.declared.question.Question.TheVariants.{Size, Form, Ranges, Length, End, Procedures, Cells, Jumps, Callees}
@@ -17,4 +18,4 @@ number_of Callees = 9
 
 -- `refused k at j`
 abbrev pub refusal_text : Refusal → List ℕ
-refusal_text r = codes "refused " ++ (decimal (number_of r.question) ++ (codes " at " ++ decimal r.place))
+refusal_text r = refused_text (number_of r.question) r.place

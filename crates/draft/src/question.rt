@@ -3,6 +3,7 @@ ghost use Rattle.std.specs.Prelude.{◌≡◌, Some};
 ghost use Rattle.draft.specs.Questions.{number_of, refusal_text};
 
 use listing::numbers::Point;
+use listing::refused::Refused;
 use std::fmt;
 
 #[derive(Clone, Copy, PartialEq, Eq, Debug)]
@@ -57,7 +58,11 @@ impl fmt::Display for Refusal {
     ghost output = { λ r. Some (refusal_text r) };
 
     fn fmt<W: fmt::Write>(&self, f: &mut fmt::Formatter<W>) -> fmt::Result {
-        write!(f, "refused {} at {}", self.question.number(), self.place)
+        let refused = Refused {
+            number: self.question.number(),
+            place: self.place,
+        };
+        write!(f, "{refused}")
     }
 }
 

@@ -4,3 +4,4 @@ pub mod Meaning
 pub mod Callers
 pub mod Lawful
 pub mod Faults
+pub mod Refusals

@@ -6,4 +6,5 @@ pub mod control;
 pub mod counts;
 pub mod numbers;
 pub mod program;
+pub mod refused;
 pub mod statement;

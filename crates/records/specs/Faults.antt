@@ -1,5 +1,6 @@
--- Number and place of a fault.
-use Rattle.std.specs.Prelude.{ℕ}
+-- Number and place of a fault, and how it is told.
+use Rattle.std.specs.Prelude.{ℕ, List}
+use Rattle.listing.specs.Refusals.{refused_text}
 use Rattle.records.specs.declared.fault.Fault.{Fault}
 use Rattle.records.specs.declared.fault.Fault.TheVariants.{Memory, Counts, Range, Waiting, Unwritten, Full}
 
@@ -13,3 +14,7 @@ number_of Full = 17
 
 abbrev pub place_of : Fault → ℕ
 place_of f = 0
+
+-- `refused k at j`
+abbrev pub fault_text : Fault → List ℕ
+fault_text f = refused_text (number_of f) (place_of f)

@@ -1,6 +1,9 @@
 // Why a call of the table, or of a report of it, is refused.
-ghost use Rattle.std.specs.Prelude.{◌≡◌};
-ghost use Rattle.records.specs.Faults.{number_of, place_of};
+ghost use Rattle.std.specs.Prelude.{◌≡◌, Some};
+ghost use Rattle.records.specs.Faults.{number_of, place_of, fault_text};
+
+use listing::refused::Refused;
+use std::fmt;
 
 #[derive(Clone, Copy, PartialEq, Eq, Debug)]
 pub enum Fault {
@@ -38,6 +41,18 @@ impl Fault {
         ensures { result ≡ place_of self }
     {
         0
+    }
+}
+
+impl fmt::Display for Fault {
+    ghost output = { λ f. Some (fault_text f) };
+
+    fn fmt<W: fmt::Write>(&self, f: &mut fmt::Formatter<W>) -> fmt::Result {
+        let refused = Refused {
+            number: self.number(),
+            place: self.place(),
+        };
+        write!(f, "{refused}")
     }
 }
 

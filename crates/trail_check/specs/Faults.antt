@@ -1,5 +1,6 @@
 -- Number and place of a fault, and how it is told.
-use Rattle.std.specs.Prelude.{ℕ, List, ◌++◌, codes, decimal}
+use Rattle.std.specs.Prelude.{ℕ, List}
+use Rattle.listing.specs.Refusals.{refused_text}
 use Rattle.trail_check.specs.declared.fault.Fault.{Fault}
 use Rattle.trail_check.specs.declared.fault.Fault.TheVariants.{Room, Stray}
 
@@ -13,4 +14,4 @@ place_of (Stray j) = j
 
 -- `refused k at j`
 abbrev pub fault_text : Fault → List ℕ
-fault_text f = codes "refused " ++ (decimal (number_of f) ++ (codes " at " ++ decimal (place_of f)))
+fault_text f = refused_text (number_of f) (place_of f)

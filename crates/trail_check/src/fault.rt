@@ -2,6 +2,7 @@
 ghost use Rattle.std.specs.Prelude.{◌≡◌, Some};
 ghost use Rattle.trail_check.specs.Faults.{number_of, place_of, fault_text};
 
+use listing::refused::Refused;
 use std::fmt;
 
 #[derive(Clone, Copy, PartialEq, Eq, Debug)]
@@ -38,6 +39,10 @@ impl fmt::Display for Fault {
     ghost output = { λ f. Some (fault_text f) };
 
     fn fmt<W: fmt::Write>(&self, f: &mut fmt::Formatter<W>) -> fmt::Result {
-        write!(f, "refused {} at {}", self.number(), self.place())
+        let refused = Refused {
+            number: self.number(),
+            place: self.place(),
+        };
+        write!(f, "{refused}")
     }
 }
