@@ -2,13 +2,14 @@
 use Rattle.std.specs.Prelude.{ℕ, List}
 use Rattle.listing.specs.Refusals.{refused_text}
 use Rattle.records.specs.declared.fault.Fault.{Fault}
-use Rattle.records.specs.declared.fault.Fault.TheVariants.{Memory, Counts, Range, Waiting, Unwritten, Full}
+use Rattle.records.specs.declared.fault.Fault.TheVariants.{Memory, Counts, Range, Waiting, Unreached, Unwritten, Full}
 
 abbrev pub number_of : Fault → ℕ
 number_of Memory = 11
 number_of Counts = 12
 number_of Range = 13
 number_of Waiting = 14
+number_of Unreached = 15
 number_of Unwritten = 16
 number_of Full = 17
 

@@ -15,6 +15,8 @@ pub enum Fault {
     Range,
     // a cell still waits
     Waiting,
+    // no cell of the pair is found
+    Unreached,
     // a pair has no line yet
     Unwritten,
     // what is to be written does not fit
@@ -31,6 +33,7 @@ impl Fault {
             Fault::Counts => 12,
             Fault::Range => 13,
             Fault::Waiting => 14,
+            Fault::Unreached => 15,
             Fault::Unwritten => 16,
             Fault::Full => 17,
         }
