@@ -99,7 +99,7 @@ module _ (h : Handed) (k : ℕ) (end : End) (t u : Tabled) (none : work_no h t �
   works_on answer w = w.leaves ∙ ap (λ (o : Option ℕ). left_by o t (worked_on h k end t)) none
 
   -- a portion settles a cell, or none waits then
-  pub moves_on : (r : Result ℕ Fault) → Works h k end t (told.worked r) u → IfOk r (λ n. u.settled ≡ t.settled + n) → IfOk r (λ n. Stops k n u.waiting) → 0 < k
+  pub moves_on : (r : Result ℕ Fault) → Works h k end t (told.number_given r) u → IfOk r (λ n. u.settled ≡ t.settled + n) → IfOk r (λ n. Stops k n u.waiting) → 0 < k
       → (t.settled ≤ u.settled) × ((t.settled + 1 ≤ u.settled) ⊎ (u.waiting ≡ []))
   moves_on (Ok n) w e s p = (
     omega arith,
@@ -154,11 +154,11 @@ less_left t u below waits same grows moved =
 
 module _ (h : Handed) (k : ℕ) (end : End) (first t u : Tabled) (out : List ℕ) (w : Underway h k end first t out) where
   -- one portion more
-  pub portion_more : (r : Result ℕ Fault) → work_no h t ≡ None → Works h k end t (told.worked r) u → IfOk r (λ n. u.settled ≡ t.settled + n) → IfOk r (λ n. Stops k n u.waiting) → CountsStay t u
+  pub portion_more : (r : Result ℕ Fault) → work_no h t ≡ None → Works h k end t (told.number_given r) u → IfOk r (λ n. u.settled ≡ t.settled + n) → IfOk r (λ n. Stops k n u.waiting) → CountsStay t u
       → 0 < k → t.settled < h.points * h.facts * h.facts → 0 < length t.waiting → Underway h k end first u (out ++ tallies_line u)
   portion_more r none works count stops same some below waits =
       let i : ℕ = w.portions in
-      let on : u ≡ worked_on h k end t = works_on h k end t u none (told.worked r) works in
+      let on : u ≡ worked_on h k end t = works_on h k end t u none (told.number_given r) works in
       let moved : i ≤ t.settled = elim w.moved [
         | inl l ↦ l
         | inr e ↦ (let z = ap length e in absurd (omega arith))
@@ -173,5 +173,5 @@ module _ (h : Handed) (k : ℕ) (end : End) (first t u : Tabled) (out : List ℕ
           | inr e ↦ inr e
         ];
         counts = record { points = same.points ∙ w.counts.points; facts = same.facts ∙ w.counts.facts };
-        row = λ opened accepted st. stands h k end opened accepted t u (told.worked r) works (w.row opened accepted st);
+        row = λ opened accepted st. stands h k end opened accepted t u (told.number_given r) works (w.row opened accepted st);
       }

@@ -25,10 +25,10 @@ one_if_yes (Ok true) = gives 1
 one_if_yes (Ok false) = gives 0
 one_if_yes (Err f) = refuses (number_of f)
 
--- the answer of work
-abbrev pub worked : Result ℕ Fault → Answer
-worked (Ok k) = gives k
-worked (Err f) = refuses (number_of f)
+-- the answer of a call that gives a number: of work, how many cells it settled; of trail, how many words it wrote
+abbrev pub number_given : Result ℕ Fault → Answer
+number_given (Ok k) = gives k
+number_given (Err f) = refuses (number_of f)
 
 -- N and F stay the table's
 pub record CountsStay (before after : Tabled) : Type 0 where

@@ -4,7 +4,8 @@
 ghost use Rattle.std.specs.Prelude.{length};
 ghost use Rattle.paths.specs.Does.{Trails};
 ghost use Rattle.table.specs.State.{state};
-ghost use Rattle.trail.specs.Trail.{given, ToldSo};
+ghost use Rattle.table.specs.Told.{number_given};
+ghost use Rattle.trail.specs.Trail.{ToldSo};
 
 mod passes;
 mod walk;
@@ -26,8 +27,8 @@ pub fn trail(
     words: &mut [u32],
     calls: &mut [Record],
 ) -> Result<usize, Fault>
-    ensures trails { Trails (state table.now) point.0 fact.0 words.old (length calls.old) (given result) words.new }
-    ensures law { ToldSo (state table.now) point.0 fact.0 words.old (length calls.old) (given result) words.new }
+    ensures trails { Trails (state table.now) point.0 fact.0 words.old (length calls.old) (number_given result) words.new }
+    ensures law { ToldSo (state table.now) point.0 fact.0 words.old (length calls.old) (number_given result) words.new }
 {
     spell(table, point, fact, words, calls)
 }
@@ -41,7 +42,7 @@ fn spell(
     words: &mut [u32],
     calls: &mut [Record],
 ) -> Result<usize, Fault>
-    ensures { Trails (state table.now) point.0 fact.0 words.old (length calls.old) (given result) words.new }
+    ensures { Trails (state table.now) point.0 fact.0 words.old (length calls.old) (number_given result) words.new }
 {
     if !table.has_pair(point, fact) {
         return Err(Fault::Range);

@@ -7,7 +7,7 @@ ghost use Rattle.paths.specs.Table.{cell, number_of};
 ghost use Rattle.paths.specs.Tabled.{find, is_found, work};
 ghost use Rattle.table.specs.State.{inner, state, spare, Kept, Serves};
 ghost use Rattle.table.specs.Settling.{Enters};
-ghost use Rattle.table.specs.Told.{one_if_yes, worked, CountsStay, Stops, Portions};
+ghost use Rattle.table.specs.Told.{one_if_yes, number_given, CountsStay, Stops, Portions};
 
 use crate::sites::{Lead, Spot};
 use crate::state::{Core, Open, Staged};
@@ -102,7 +102,7 @@ impl Staged<Open> {
         k: u32,
         end: End,
     ) -> Result<u32, Fault>
-        ensures works { Works (handed_by P.Program Q.Problem on.now) k end (state self.old) (worked result) (state self.new) }
+        ensures works { Works (handed_by P.Program Q.Problem on.now) k end (state self.old) (number_given result) (state self.new) }
         ensures counts { CountsStay (state self.old) (state self.new) }
         ensures count { IfOk result (λ n. (state self.new).settled ≡ (state self.old).settled + n) }
         ensures stops { IfOk result (λ n. Stops k n (state self.new).waiting) }
