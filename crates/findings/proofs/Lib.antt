@@ -3,3 +3,5 @@ pub mod Carried
 pub mod Whole
 pub mod Ascii
 pub mod Settling
+pub mod Lists
+pub mod Both

@@ -6,7 +6,7 @@ use Rattle.paths.specs.Does.{gives, refuses, no, writes, fitting, line_turn_by, 
 use Rattle.paths.specs.Page.{line_text, put_at}
 use Rattle.records.specs.Faults.{number_of}
 use Rattle.records.specs.declared.fault.Fault.{Fault}
-use Rattle.records.specs.declared.fault.Fault.TheVariants.{Memory, Counts, Range, Waiting, Unwritten, Full}
+use Rattle.records.specs.declared.fault.Fault.TheVariants.{Memory, Counts, Range, Waiting, Unreached, Unwritten, Full}
 
 -- the turn writes the line of the first pair
 pub record Written (xs : List (ℕ × ℕ)) (place size : ℕ) : Type 0 where
@@ -60,6 +60,7 @@ is_full Memory e = absurd (omega arith)
 is_full Counts e = absurd (omega arith)
 is_full Range e = absurd (omega arith)
 is_full Waiting e = absurd (omega arith)
+is_full Unreached e = absurd (omega arith)
 is_full Unwritten e = absurd (omega arith)
 is_full Full e = refl
 

@@ -1,2 +1,4 @@
 pub mod Report
 pub mod Outcome
+pub mod Told
+pub mod Listed

@@ -3,4 +3,6 @@
 
 pub mod fill;
 mod lines;
+pub mod listed;
 pub mod room;
+pub mod told;

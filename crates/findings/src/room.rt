@@ -6,3 +6,9 @@ pub struct Room {
     pub records: usize,
     pub page: usize,
 }
+
+// The room for each report of a sheet.
+pub const SHEET: Room = Room {
+    records: 3000,
+    page: 16384,
+};

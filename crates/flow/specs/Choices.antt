@@ -8,6 +8,11 @@ use Rattle.flow.specs.declared.choice.Choice.{Choice}
 use Rattle.flow.specs.declared.choice.Choice.TheVariants.{Unset, Raw}
 use Rattle.flow.specs.declared.interface.Start.{Start}
 
+-- the problem's own number
+abbrev pub number : Choice → ℕ
+number Unset = 1
+number Raw = 2
+
 -- the relation over g globals and l locals
 abbrev pub rule_of : Choice → ℕ → ℕ → Rule
 rule_of Unset g l = unset_in g l

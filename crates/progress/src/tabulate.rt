@@ -1,6 +1,5 @@
 // Tabulating a problem over a program, portion by portion.
-ghost use Rattle.std.specs.Prelude.{◌≡◌, [], replicate, IfOk, string_bytes};
-ghost use Rattle.records.specs.Blank.{blank};
+ghost use Rattle.std.specs.Prelude.{◌≡◌, [], IfOk, string_bytes};
 ghost use Rattle.paths.specs.Does.{gives, Closed, Closes};
 ghost use Rattle.paths.specs.Handing.{handed_by};
 ghost use Rattle.table.specs.State.{state, Serves};
@@ -37,13 +36,6 @@ fn work_off<P: Program, Q: Problem>(
     Ok(out)
 }
 
-// A memory with a record for each cell of a program and a problem.
-fn memory_for(heap: Global, cells: u32) -> Result<Vec<Record>, AllocError>
-    ensures { IfOk result (λ v. v.items ≡ replicate cells blank) }
-{
-    vec![in heap; Record::blank(); cells as usize]
-}
-
 // A table of a program and a problem, with the default starts sown.
 fn seeded<P: Program, Q: Problem>(
     heap: Global,
@@ -51,7 +43,7 @@ fn seeded<P: Program, Q: Problem>(
 ) -> Result<OpenTable, AllocError>
     ensures { IfOk result (λ t. Seeded (handed_by P.Program Q.Problem on.now) (Q.starts on.now.problem.now) (state t)) }
 {
-    let memory = memory_for(heap, records_for(on))?;
+    let memory = Record::blanks(heap, records_for(on) as usize)?;
     let Ok(mut table) = OpenTable::open(memory, on) else {
         unreachable()
     };

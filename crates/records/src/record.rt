@@ -1,8 +1,9 @@
 // What a table keeps of each of its cells.
-ghost use Rattle.std.specs.Prelude.{◌≡◌};
+ghost use Rattle.std.specs.Prelude.{◌≡◌, replicate, IfOk};
 ghost use Rattle.records.specs.Blank.{blank};
 
 use moves::moves::Kind;
+use std::alloc::{AllocError, Global};
 
 // How a cell was found. The format of a record is a rule of the project: rank, kind, first and second, with 0 for a rank or a cell that is
 // not there.
@@ -30,5 +31,11 @@ impl Record {
             second: 0,
             slot: 0,
         }
+    }
+    // So many records, each of a cell that is not found.
+    pub fn blanks(heap: Global, count: usize) -> Result<Vec<Record>, AllocError>
+        ensures { IfOk result (λ v. v.items ≡ replicate count blank) }
+    {
+        vec![in heap; Record::blank(); count]
     }
 }
