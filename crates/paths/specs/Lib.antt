@@ -17,6 +17,4 @@ pub mod Law
 pub mod Exactly
 pub mod Checked
 pub mod Usage
-pub mod Sample
-pub mod Worked
 pub mod Ends

@@ -15,8 +15,6 @@ ghost use Rattle.paths.specs.Law.{LawFrom, Sound, TheLaw};
 ghost use Rattle.paths.specs.Exactly.{ExactRows};
 ghost use Rattle.paths.specs.Checked.{TheCheck};
 ghost use Rattle.paths.specs.Usage.{Usable};
-ghost use Rattle.paths.specs.Sample.{Absent, Sample, SampleA};
-ghost use Rattle.paths.specs.Worked.{Worked};
 
 pub mod analysis;
 pub mod worklist;
@@ -79,24 +77,4 @@ pub fn usable()
 // The form of the clause on open: H stands for what the arguments mean.
 pub fn opens(points: u16, facts: u8)
     ensures { (H : Handed) → Sound H → H.points ≡ points → H.facts ≡ facts → (memory : List Rec) → points * facts * facts ≤ length memory → LawFrom H (newly_in points facts memory) }
-{}
-
-// A sample under unset, settled newest first.
-pub fn sample_a()
-    ensures { SampleA }
-{}
-
-// A sample under raw, settled oldest first.
-pub fn sample()
-    ensures { Sample }
-{}
-
-// Which pairs of that sample call-matched paths reach.
-pub fn absent()
-    ensures { Absent }
-{}
-
-// What the calls answer on samples.
-pub fn worked()
-    ensures { Worked }
 {}
