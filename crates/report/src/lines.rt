@@ -1,9 +1,10 @@
 // Beginning a report, and its lines.
 ghost use Rattle.std.specs.Prelude.{◌≡◌, true, false, length, Ok};
+ghost use Rattle.std.specs.Option.{is_some};
 ghost use Rattle.paths.specs.Page.{pairs_of};
 ghost use Rattle.paths.specs.Does.{begun, Lines};
 ghost use Rattle.table.specs.State.{state};
-ghost use Rattle.table.specs.Told.{one_if_yes};
+ghost use Rattle.table.specs.Told.{least, one_if_yes};
 ghost use Rattle.report.specs.Told.{reported, Next};
 
 use crate::pair::Pair;
@@ -30,6 +31,13 @@ impl<S: Stage> Report<S> {
         }
     }
 
+    // Whether a pair of the table has a found cell, and so a line.
+    fn is_listed(&self, point: Point, fact: Fact) -> bool
+        ensures { result ≡ is_some (least (state self.now.table) point.0 fact.0) }
+    {
+        self.table.least(point, fact).is_some()
+    }
+
     // The first pair that has no line yet, if any is left.
     pub(crate) fn next_pair(&self) -> Option<Pair>
         ensures { Next (reported self.now) result }
@@ -38,7 +46,7 @@ impl<S: Stage> Report<S> {
         for number in self.next..u32::from(self.table.points()) * facts {
             let point = Point((number / facts) as u16);
             let fact = Fact((number % facts) as u8);
-            if self.table.least(point, fact).is_some() {
+            if self.is_listed(point, fact) {
                 return Some(Pair {
                     number,
                     point,

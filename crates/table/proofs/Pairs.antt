@@ -1,29 +1,11 @@
 -- The found cells of a pair.
-use Rattle.std.proofs.Common.{◌≡◌, ℕ, zero, suc, ◌*◌, ◌<◌, ◌≤◌, Bool, true, false, cond, Some, None, Option, refl, ap, ◌∙◌, subst, arith, inl, inr}
-use Rattle.std.proofs.lemmas.Bool.{cases_lt}
+use Rattle.std.proofs.Common.{◌≡◌, ℕ, zero, suc, ◌*◌, ◌<◌, Bool, true, false, cond, Some, None, Option, refl, ap, ◌∙◌, arith}
 use Rattle.std.specs.Option.{is_some}
 use Rattle.paths.specs.Table.{cell, number_of}
 use Rattle.paths.specs.Tabled.{Tabled, is_found}
 use Rattle.paths.specs.Page.{any_found}
 use Rattle.paths.specs.Words.{earlier, least_found}
 use Rattle.table.specs.Told.{has_pair, least}
-
--- the least stays so among more
-pub least_from : (k a n d c : ℕ) (t : Tabled) → a ≤ k → least_found a n d t ≡ Some c → least_found k n d t ≡ Some c
-least_from zero a n d c t l e = (let z : a ≡ 0 = omega arith in subst (λ (j : ℕ). least_found j n d t ≡ Some c) z e)
-least_from (suc k) a n d c t l e = elim (cases_lt k a) [
-  | inl m ↦ (let z : a ≡ suc k = omega arith in subst (λ (j : ℕ). least_found j n d t ≡ Some c) z e)
-  | inr h ↦ ap (λ (o : Option ℕ). earlier o (is_found (number_of t.facts (cell n k d)) t) (number_of t.facts (cell n k d))) (least_from k a n d c t (omega arith) e)
-]
-
--- the first that is found is the least
-pub least_now : (k a n d : ℕ) (t : Tabled) → a < k → least_found a n d t ≡ None → is_found (number_of t.facts (cell n a d)) t ≡ true
-    → least_found k n d t ≡ Some (number_of t.facts (cell n a d))
-least_now k a n d t l none found =
-    let c = number_of t.facts (cell n a d) in
-    let f : Bool = is_found c t in
-    least_from k (suc a) n d c t (omega arith)
-    (ap (λ (o : Option ℕ). earlier o f c) none ∙ ap (λ (b : Bool). earlier None b c) found)
 
 either : (o : Option ℕ) (b : Bool) (c : ℕ) → is_some (earlier o b c) ≡ cond b true (is_some o)
 either None true c = refl

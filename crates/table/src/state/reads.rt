@@ -16,17 +16,18 @@ impl Core {
         requires fact { fact.0 < self.now.facts }
         ensures { result ≡ least_found self.now.facts point.0 fact.0 (inner self.now) }
     {
+        let mut least = None;
         for a in 0..self.facts {
             let cell = self.number(Spot {
                 point,
                 origin: Fact(a),
                 fact,
             });
-            if self.is_found(cell) {
-                return Some(cell);
+            if least.is_none() && self.is_found(cell) {
+                least = Some(cell);
             }
         }
-        None
+        least
     }
 }
 

@@ -1,4 +1,4 @@
-use Rattle.std.proofs.Common.{◌≡◌, ℕ, suc, ◌+◌, ◌-◌, ◌*◌, ◌/◌, ◌%◌, ◌<◌, Bool, true, false, ◌∷◌, Option, length, drop, sym, ap, ◌∙◌, subst, arith}
+use Rattle.std.proofs.Common.{◌≡◌, ℕ, suc, ◌+◌, ◌-◌, ◌*◌, ◌/◌, ◌%◌, ◌<◌, Bool, true, false, ◌∷◌, length, drop, sym, ap, ◌∙◌, subst, arith}
 use Rattle.std.specs.Option.{is_some}
 use Rattle.paths.specs.Page.{pairs_of}
 use Rattle.paths.specs.Tabled.{Tabled}
@@ -9,13 +9,12 @@ use Rattle.report.proofs.Numbered.{none_here, one_here, left_here, none_left, fe
 use Rattle.report.proofs.state.Report.next_pair.Goals as goal
 
 -- the test of the pair with the number k, in the table's words
-tested : (t : Tabled) (k f : ℕ) (o : Option ℕ) (r b : Bool) → f ≡ t.facts → o ≡ least t (k / f) (k % f) → r ≡ is_some o → r ≡ b
+tested : (t : Tabled) (k f : ℕ) (r b : Bool) → f ≡ t.facts → r ≡ is_some (least t (k / f) (k % f)) → r ≡ b
     → is_some (least t (k / t.facts) (k % t.facts)) ≡ b
-tested t k f o r b same is some e =
-    subst (λ (x : ℕ). is_some (least t (k / x) (k % x)) ≡ b) same (ap (λ (x : Option ℕ). is_some x) (sym is) ∙ sym some ∙ e)
+tested t k f r b same is e = subst (λ (x : ℕ). is_some (least t (k / x) (k % x)) ≡ b) same (sym is ∙ e)
 
-pub returns-then-is_some : goal.returns-then-is_some
-returns-then-is_some g c =
+pub returns-then-is_listed : goal.returns-then-is_listed
+returns-then-is_listed g c =
     let t : Tabled = state c.args.self.now.table in
     let k : ℕ = c.loop-number.number in
     let same : c.from-facts.result ≡ t.facts = c.from-facts.ensures ∙ c.facts.ensures.value in
@@ -25,7 +24,7 @@ returns-then-is_some g c =
     let few = few_pairs c.from.result c.from-facts.result (omega (arith, c.from.ensures, c.points.ensures.few)) (omega (arith, c.from-facts.ensures, c.facts.ensures.few)) in
     let within : k < t.points * t.facts = omega (arith, c.loop-number-test.true) in
     let some : 0 < t.facts = omega (arith, c.facts.ensures.some, c.facts.ensures.value) in
-    let yes_is = tested t k c.from-facts.result c.least.result c.is_some.result true same c.least.ensures c.is_some.ensures c.if-is_some.true in
+    let yes_is = tested t k c.from-facts.result c.is_listed.result true same c.is_listed.ensures c.if-is_listed.true in
     let n : suc k ≡ k + 1 = omega arith in
     let lines : c.args.self.now.lines ≡ length (pairs_before k t) = c.args.self.now.counted ∙ sym (ap length c.loop-number.invariant.1) in
     record {
@@ -49,7 +48,7 @@ loop-number-preserved g c =
     ap (λ (x : ℕ). x * c.from-facts.result) points ∙ ap (λ (x : ℕ). t.points * x) same in
     let within : k < t.points * t.facts = omega (arith, c.loop-number-test.true) in
     let some : 0 < t.facts = omega (arith, c.facts.ensures.some, c.facts.ensures.value) in
-    let no_is = tested t k c.from-facts.result c.least.result c.is_some.result false same c.least.ensures c.is_some.ensures c.if-is_some.false in
+    let no_is = tested t k c.from-facts.result c.is_listed.result false same c.is_listed.ensures c.if-is_listed.false in
     let from = c.loop-number.invariant.0 in
     let n : k + 1 ≡ suc k = omega arith in
     (omega arith, ap (λ (m : ℕ). pairs_before m t) n ∙ none_here t k some within no_is ∙ c.loop-number.invariant.1)
