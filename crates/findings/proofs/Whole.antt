@@ -1,5 +1,5 @@
 -- The page of a whole report.
-use Rattle.std.proofs.Common.{◌≡◌, ℕ, ◌+◌, ◌<◌, ◌≤◌, Bool, true, false, List, ◌++◌, length, take, drop, refl, sym, ap, ◌∙◌, arith, leb, ◌==◌}
+use Rattle.std.proofs.Common.{◌≡◌, Result, subst, ℕ, ◌+◌, ◌<◌, ◌≤◌, Bool, true, false, List, ◌++◌, length, take, drop, refl, sym, ap, ◌∙◌, arith, leb, ◌==◌}
 use Rattle.std.proofs.lemmas.Bool.{cond-true, eq-eqb, leb-true, leb-false}
 use Rattle.std.proofs.lemmas.List.{length-append, length-take-le, take_all, take-append-drop}
 use Rattle.std.proofs.lemmas.List.Concat.{flat_map-append}
@@ -8,12 +8,20 @@ use Rattle.paths.specs.Page.{pairs_of, line_text, lines_text, foot_text}
 use Rattle.paths.specs.Tabled.{Tabled}
 use Rattle.paths.proofs.Pages.{Paged, pages}
 use Rattle.records.specs.declared.fault.Fault.{Fault}
-use Rattle.findings.specs.Report.{report_text, Led, Underway, Late}
+use Rattle.findings.specs.Report.{report_text, Led, Underway, Filled, Late}
 use Rattle.findings.proofs.Turns.{same_size}
 
 -- a report that is begun is under way
-pub begins : (h : Handed) (starts : List (ℕ × ℕ)) (t : Tabled) (page : List ℕ) → Led h starts (Closed t) → Underway h starts (begun t) page
+begins : (h : Handed) (starts : List (ℕ × ℕ)) (t : Tabled) (page : List ℕ) → Led h starts (Closed t) → Underway h starts (begun t) page
 begins h starts t page led = record { first = led.first; usage = led.usage; on = led.usage.begins starts t page led.stands }
+
+-- what is left of such a report is all of it
+pub from_begun : (r : Report) (t : Tabled) (page page' : List ℕ) (o : Result ℕ Fault) → r ≡ begun t
+    → ((h : Handed) (starts : List (ℕ × ℕ)) → Underway h starts r page → Filled h starts r.table page o page')
+    → (h : Handed) (starts : List (ℕ × ℕ)) → Led h starts (Closed t) → Filled h starts t page o page'
+from_begun r t page page' o e f h starts led =
+    subst (λ (x : Report). Filled h starts x.table page o page') e
+    (f h starts (subst (λ (x : Report). Underway h starts x page) (sym e) (begins h starts t page led)))
 
 -- the page up to the report's place is the lines written so far
 pub paged : (h : Handed) (starts : List (ℕ × ℕ)) (r : Report) (page : List ℕ) → Underway h starts r page → Paged r page

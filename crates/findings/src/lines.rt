@@ -3,7 +3,7 @@ ghost use Rattle.std.specs.Prelude.{◌≡◌, List, ℕ};
 ghost use Rattle.paths.specs.Does.{Handed, Closed};
 ghost use Rattle.table.specs.State.{state};
 ghost use Rattle.report.specs.Told.{reported};
-ghost use Rattle.findings.specs.Report.{Led, Filled, Lines};
+ghost use Rattle.findings.specs.Report.{Led, Underway, Filled, Lines};
 
 use records::fault::Fault;
 use report::state::Report;
@@ -17,11 +17,10 @@ fn write_lines<S: Stage>(report: &mut Report<S>, page: &mut [u8]) -> Result<(), 
     Ok(())
 }
 
-// Writes the report of a table, and gives the place after its foot. A report that does not fit is abandoned.
-pub(crate) fn write_report(table: ClosedTable, page: &mut [u8]) -> Result<usize, Fault>
-    ensures { (h : Handed) (starts : List (ℕ × ℕ)) → Led h starts (Closed (state table)) → Filled h starts (state table) page.old result page.new }
+// Writes what is left of a report, and gives the place after its foot. A report that does not fit is abandoned.
+fn finish<S: Stage>(mut report: Report<S>, page: &mut [u8]) -> Result<usize, Fault>
+    ensures { (h : Handed) (starts : List (ℕ × ℕ)) → Underway h starts (reported report) page.old → Filled h starts (reported report).table page.old result page.new }
 {
-    let mut report = Report::begin(table);
     if let Err(fault) = write_lines(&mut report, page) {
         let _table = report.abandon();
         return Err(fault);
@@ -33,4 +32,12 @@ pub(crate) fn write_report(table: ClosedTable, page: &mut [u8]) -> Result<usize,
             Err(refusal.fault)
         }
     }
+}
+
+// Writes the report of a table, and gives the place after its foot.
+#[tactic(auto, using(crate::proofs::Whole::from_begun))]
+pub(crate) fn write_report(table: ClosedTable, page: &mut [u8]) -> Result<usize, Fault>
+    ensures { (h : Handed) (starts : List (ℕ × ℕ)) → Led h starts (Closed (state table)) → Filled h starts (state table) page.old result page.new }
+{
+    finish(Report::begin(table), page)
 }
