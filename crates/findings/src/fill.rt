@@ -13,7 +13,7 @@ use starts::sow_starts;
 use table::state::{ClosedTable, OpenTable, records_for};
 
 // A table in a memory, with the default starts sown and every cell settled, the oldest first.
-fn settle_all<P: Program, Q: Problem>(
+pub fn settle_all<P: Program, Q: Problem>(
     memory: Vec<Record>,
     on: &Analysis<P, Q>,
 ) -> Result<ClosedTable, Fault>

@@ -8,7 +8,8 @@ use Rattle.moves.specs.declared.moves.Move.{Move}
 use Rattle.moves.specs.declared.words.NotAMove.{NotAMove}
 use Rattle.moves.specs.Words.{decode}
 use Rattle.std.specs.Option.{ok_or}
-use Rattle.review.specs.Reviewed.{opened, move_line, lines_from, lines_of}
+use Rattle.move_text.specs.Lines.{opened}
+use Rattle.review.specs.Reviewed.{move_line, lines_from, lines_of}
 
 module _ (stands : ℕ → Option Cell) (xs : List ℕ) (i k : ℕ) (out : List ℕ) (inv : out ++ lines_of stands k (drop i xs) ≡ lines_of stands 0 xs) where
   next : i < length xs → out ++ lines_from (decode (get_or xs i 0)) stands k (λ j. lines_of stands j (drop (i + 1) xs)) ≡ lines_of stands 0 xs

@@ -1,6 +1,5 @@
 // A trail in words, move by move, and whether it is a call-matched path.
 #![tactic(auto)]
 
-mod lines;
 pub mod told;
 pub mod trail;

@@ -5,10 +5,10 @@ ghost use Rattle.trail_check.specs.Handing.{told};
 ghost use Rattle.paths.specs.Checked.{check_no};
 ghost use Rattle.review.specs.Reviewed.{lines_of, lawful_words, reviewed};
 
-use crate::lines::{Item, MoveLine, open_after};
 use flow::interface::Problem;
 use listing::numbers::{Cell, Point};
 use listing::program::Program;
+use move_text::{Item, MoveLine, open_after};
 use moves::moves::Move;
 use paths::analysis::Analysis;
 use std::alloc::{AllocError, Global};

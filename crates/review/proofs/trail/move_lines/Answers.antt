@@ -5,9 +5,10 @@ use Rattle.review.proofs.trail.move_lines.Goals as goal
 pub loop-word-preserved : goal.loop-word-preserved
 loop-word-preserved g c =
     let k = c.loop-word.height in
-    let m = c.in-Ok.arriving in (
-      rw c.open_after-height.ensures (omega (arith, opened_le k m.kind, c.loop-word.invariant.0)),
-      rw (c.in_ok-writeln.ensures.bytes, c.open_after-height.ensures, c.item.ensures)
+    let m = c.in-Ok.arriving in
+    let opens = c.open_after-height.ensures (omega (arith, c.loop-word.invariant.0)) in (
+      rw opens (omega (arith, opened_le k m.kind, c.loop-word.invariant.0)),
+      rw (c.in_ok-writeln.ensures.bytes, opens, c.item.ensures)
           (one_more (g.Q.Problem.stands c.args.problem.now) c.args.words.now c.loop-word.word-index k (string_bytes c.loop-word.out) c.loop-word.invariant.1 (omega arith) m
           (read_as _ _ m c.in-Ok.ensures.value)),
     )

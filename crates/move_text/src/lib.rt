@@ -1,6 +1,8 @@
 // One move in words.
+#![tactic(auto)]
+
 ghost use Rattle.std.specs.Prelude.{◌≡◌, ◌+◌, ◌^◌, ◌<◌, Some};
-ghost use Rattle.review.specs.Reviewed.{item_text, line_text, opened};
+ghost use Rattle.move_text.specs.Lines.{item_text, line_text, opened};
 
 use listing::numbers::Cell;
 use moves::moves::{Kind, Move};
@@ -8,7 +10,7 @@ use std::fmt;
 
 // What a fact of cells stands for. An option of a cell has no `Display` to give it, hence the struct.
 #[derive(Clone, Copy)]
-pub(crate) struct Item {
+pub struct Item {
     pub cell: Option<Cell>,
 }
 
@@ -25,7 +27,7 @@ impl fmt::Display for Item {
 
 // A move, what its fact stands for, and how many calls are open after it.
 #[derive(Clone, Copy)]
-pub(crate) struct MoveLine {
+pub struct MoveLine {
     pub arriving: Move,
     pub item: Item,
     pub height: usize,
@@ -44,13 +46,12 @@ impl fmt::Display for MoveLine {
     }
 }
 
-// How many calls are open after a move.
-pub(crate) fn open_after(height: usize, kind: Kind) -> usize
-    requires { height + 1 < 2 ^ 64 }
-    ensures { result ≡ opened height kind }
+// How many calls are open after a move. A count at its end stays there: no memory holds so many moves.
+pub fn open_after(height: usize, kind: Kind) -> usize
+    ensures { height + 1 < 2 ^ 64 → result ≡ opened height kind }
 {
     match kind {
-        Kind::Call => height + 1,
+        Kind::Call => height.saturating_add(1),
         Kind::Return => height.saturating_sub(1),
         _ => height,
     }

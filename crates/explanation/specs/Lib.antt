@@ -1,0 +1,4 @@
+pub mod Lines
+pub mod Beside
+pub mod Explained
+pub mod Told
