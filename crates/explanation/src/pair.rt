@@ -37,20 +37,6 @@ fn blank_words(heap: Global) -> Result<Vec<u32>, AllocError>
     vec![in heap; 0; ROOM]
 }
 
-// The records that its walk keeps.
-fn blank_calls(heap: Global) -> Result<Vec<Record>, AllocError>
-    ensures { IfOk result (λ v. length v.items ≡ room) }
-{
-    vec![in heap; Record::blank(); ROOM]
-}
-
-// A record for each cell of a table.
-fn blank_records(heap: Global, cells: u32) -> Result<Vec<Record>, AllocError>
-    ensures { IfOk result (λ v. v.items ≡ replicate cells blank) }
-{
-    vec![in heap; Record::blank(); cells as usize]
-}
-
 // A table of a program and a problem, with the default starts sown and every cell settled.
 fn settled<P: Program, Q: Problem>(
     heap: Global,
@@ -58,7 +44,7 @@ fn settled<P: Program, Q: Problem>(
 ) -> Result<ClosedTable, AllocError>
     ensures { IfOk result (λ t. let h = handed_by P.Program Q.Problem on.now in Settled h (Q.starts on.now.problem.now) (records_of h) (state t)) }
 {
-    let memory = blank_records(heap, records_for(on))?;
+    let memory = Record::blanks(heap, records_for(on) as usize)?;
     // the memory has a record for each cell, so it is not refused
     let Ok(table) = settle_all(memory, on) else {
         unreachable()
@@ -85,7 +71,7 @@ fn tell_trail<P: Program, Q: Problem<Item = Cell>>(
     ensures law { IfOk result (λ s. let h = handed_by P.Program Q.Problem on.now in Explains h (accepted_of h (Q.starts on.now.problem.now)) (P.meaning on.now.program.now) (Q.stands on.now.problem.now) pair.point.0 pair.fact.0 (string_bytes s)) }
 {
     let mut words = blank_words(heap)?;
-    let mut calls = blank_calls(heap)?;
+    let mut calls = Record::blanks(heap, ROOM)?;
     match trail(
         table,
         pair.point,

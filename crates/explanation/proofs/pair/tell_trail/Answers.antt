@@ -1,9 +1,10 @@
 use Rattle.std.proofs.Common.{◌≡◌, ℕ, List, length, take, string_bytes, ap, ◌∙◌, arith}
-use Rattle.std.proofs.lemmas.List.{take_at}
+use Rattle.std.proofs.lemmas.List.{take_at, length-replicate}
 use Rattle.std.proofs.lemmas.Result.{IfOk-weaker}
 use Rattle.paths.specs.Does.{Handed, trail_turn}
 use Rattle.paths.specs.Handing.{handed_by}
 use Rattle.paths.specs.Tabled.{Tabled}
+use Rattle.records.specs.Blank.{blank}
 use Rattle.records.specs.Faults.{number_of}
 use Rattle.records.specs.declared.record.Record.{Record}
 use Rattle.table.specs.State.{state}
@@ -22,7 +23,7 @@ returns-in-Ok g c =
     let n = c.args.pair.point.0 in
     let d = c.args.pair.fact.0 in
     let first : c.as_mut_slice.result.now ≡ memory_of room = c.as_mut_slice.ensures.value ∙ c.in_ok-words.ensures in
-    let many : length c.as_mut_slice-2.result.now ≡ room = ap (λ (rs : List Record). length rs) c.as_mut_slice-2.ensures.value ∙ c.in_ok-calls.ensures in
+    let many : length c.as_mut_slice-2.result.now ≡ room = ap (λ (rs : List Record). length rs) c.as_mut_slice-2.ensures.value ∙ ap (λ (rs : List Record). length rs) c.in_ok-calls.ensures ∙ length-replicate room blank in
     let held : c.as_slice.result.now ≡ take c.in-Ok.count c.trail.new.words =
     c.as_slice.ensures.value ∙ c.truncate.ensures.items
     ∙ ap (λ (ws : List ℕ). take c.in-Ok.count ws) (take_at c.trail.new.words _ c.in_ok-words.words.len (omega arith)) in
@@ -50,7 +51,7 @@ returns g c =
     let d = c.args.pair.fact.0 in
     let q = number_of c.in-Err.fault in
     let first : c.as_mut_slice.result.now ≡ memory_of room = c.as_mut_slice.ensures.value ∙ c.in_ok-words.ensures in
-    let many : length c.as_mut_slice-2.result.now ≡ room = ap (λ (rs : List Record). length rs) c.as_mut_slice-2.ensures.value ∙ c.in_ok-calls.ensures in
+    let many : length c.as_mut_slice-2.result.now ≡ room = ap (λ (rs : List Record). length rs) c.as_mut_slice-2.ensures.value ∙ ap (λ (rs : List Record). length rs) c.in_ok-calls.ensures ∙ length-replicate room blank in
     record {
       text = IfOk-weaker c.refusal_line.result _ (λ s. string_bytes s ≡ explained h starts m stands n d)
           (λ s e. e ∙ told_refused m stands t n d (length c.as_mut_slice-2.result.now) q c.as_mut_slice.result.now c.trail.new.words first many c.in-Err.ensures.trails
