@@ -1,0 +1,117 @@
+// A row of calls of a table, and what each gave, as words.
+ghost use Rattle.std.specs.Prelude.{◌≡◌};
+ghost use Rattle.table.specs.State.{code_in};
+
+use crate::answer::Answer;
+use crate::call::Call;
+use crate::given::{problem_of, program_of};
+use crate::tabulation::{Given, Tabulation};
+use flow::interface::Problem;
+use listing::program::Program;
+use moves::moves::Kind;
+use paths::analysis::Analysis;
+use records::record::Record;
+use records::tallies::Tallies;
+use std::alloc::{AllocError, Global};
+use table::state::{OpenTable, records_for};
+
+// The word between what the calls gave and the records.
+const END_OF_CALLS: u32 = 9999;
+
+// Tells an answer, and how many cells are then found, settled and waiting.
+fn tell_answer(out: &mut Vec<u32>, answer: Answer, tallies: Tallies) -> Result<(), AllocError> {
+    out.push(answer.word())?;
+    out.push(tallies.found)?;
+    out.push(tallies.settled)?;
+    out.push(tallies.waiting)?;
+    Ok(())
+}
+
+// Tells how many words were written, and the words.
+fn tell_written(out: &mut Vec<u32>, written: &[u32]) -> Result<(), AllocError> {
+    out.push(u32::try_from(written.len()).unwrap_or(u32::MAX))?;
+    for word in written {
+        out.push(*word)?;
+    }
+    Ok(())
+}
+
+// Performs a call, and tells what it gave; the table comes back.
+fn perform<P: Program, Q: Problem>(
+    alloc: Global,
+    table: Tabulation,
+    on: &Analysis<P, Q>,
+    call: Call,
+    out: &mut Vec<u32>,
+) -> Result<Tabulation, AllocError> {
+    let (table, given) = table.call(alloc, on, call)?;
+    tell_answer(out, given.answer, table.tallies())?;
+    if call.writes() {
+        tell_written(out, given.written.as_slice())?;
+    }
+    Ok(table)
+}
+
+// 0 where the cell is not found.
+fn kind_word(kind: Option<Kind>) -> u32
+    ensures { result ≡ code_in kind }
+{
+    match kind {
+        None => 0,
+        Some(Kind::Start) => 1,
+        Some(Kind::Step) => 2,
+        Some(Kind::Past) => 3,
+        Some(Kind::Call) => 4,
+        Some(Kind::Return) => 5,
+    }
+}
+
+// Tells each record.
+fn tell_records(out: &mut Vec<u32>, records: &[Record]) -> Result<(), AllocError> {
+    for record in records {
+        out.push(record.rank)?;
+        out.push(kind_word(record.kind))?;
+        out.push(record.first)?;
+        out.push(record.second)?;
+    }
+    Ok(())
+}
+
+// A table newly opened, with a record for each cell.
+fn opened<P: Program, Q: Problem>(alloc: Global, on: &Analysis<P, Q>) -> Option<OpenTable> {
+    let memory = Record::blanks(alloc, records_for(on) as usize).ok()?;
+    OpenTable::open(memory, on).ok()
+}
+
+// Performs each call that words tell, and then tells the records.
+fn perform_all<P: Program, Q: Problem>(
+    alloc: Global,
+    on: &Analysis<P, Q>,
+    run: &[u32],
+) -> Option<Vec<u32>> {
+    let mut table = Tabulation::Open(opened(alloc, on)?);
+    let mut out = Vec::new(alloc);
+    for words in run.chunks_exact(3) {
+        table = perform(alloc, table, on, Call::of(words), &mut out).ok()?;
+    }
+    out.push(END_OF_CALLS).ok()?;
+    tell_records(&mut out, table.end().as_slice()).ok()?;
+    Some(out)
+}
+
+// The words of a row of calls; none where the listing is refused, the relation has not its length or memory is wanting.
+pub(crate) fn tabulated(
+    alloc: Global,
+    listing: &[u8],
+    relation: &[u8],
+    facts: u8,
+    run: &[u32],
+) -> Option<Vec<u32>> {
+    let program = program_of(listing)?;
+    let problem = problem_of(alloc, &program, relation, facts)?;
+    let on = &Analysis {
+        program: &program,
+        problem: &problem,
+    };
+    perform_all(alloc, on, run)
+}

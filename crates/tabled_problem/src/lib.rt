@@ -1,0 +1,5 @@
+// A problem whose relation is given as a table of bits.
+#![tactic(auto)]
+
+pub mod problem;
+mod rows;

@@ -1,0 +1,93 @@
+// A problem given by the bytes of its table.
+ghost use Rattle.std.specs.Prelude.{◌≡◌, ◌≤◌};
+
+use crate::rows::{bit_in, row_number};
+use flow::edge::Edge;
+use flow::interface::{Problem, Start};
+use listing::numbers::{Fact, Proc};
+
+// So many facts, and for each point, for each kind of edge, a row of 8 bytes for each fact: which facts follow from it. Any relation may be given
+// so, and nothing is known of zero. The bytes are owned, since a type with a lifetime cannot give a trait's constant yet.
+#[derive(Drop)]
+pub struct TabledProblem {
+    bytes: Vec<u8>,
+    facts: u8,
+    ghost some: { 1 ≤ facts },
+    ghost few: { facts ≤ 64 },
+}
+
+impl TabledProblem {
+    ghost use Rattle.std.specs.Prelude.{true, false, MatchOption};
+    ghost use Rattle.tabled_problem.specs.Rows.{count_in_range};
+
+    // The problem of so many facts that the bytes give, if there may be so many facts.
+    pub fn new(bytes: Vec<u8>, facts: u8) -> Option<TabledProblem>
+        ensures { MatchOption result
+            (count_in_range facts ≡ false)
+            (λ q. (count_in_range facts ≡ true) × (q.bytes.items ≡ bytes.items) × (q.facts ≡ facts)) }
+    {
+        if (1..=64).contains(&facts) {
+            Some(TabledProblem { bytes, facts })
+        } else {
+            None
+        }
+    }
+}
+
+impl Problem for TabledProblem {
+    ghost use Rattle.std.proofs.Common.{rules};
+    ghost use Rattle.flow.specs.CellFacts.{from_each};
+    ghost use Rattle.tabled_problem.specs.Rows.{tabled, itself};
+
+    type Item = Fact;
+
+    const NUMBER: u8 = 0;
+
+    ghost NUMBER = { 0 };
+
+    ghost count = { λ q. q.facts };
+
+    ghost relation = { λ q. tabled q.bytes.items q.facts };
+
+    ghost stands = { λ q. itself q.facts };
+
+    ghost starts = { λ q. from_each 0 q.facts };
+
+    ghost zeroed = { ⊥ };
+
+    ghost few = { Prim.search rules };
+
+    ghost within = { Prim.search rules };
+
+    ghost zero = { Prim.search rules };
+
+    fn own_number(&self) -> u8 {
+        0
+    }
+
+    fn facts(&self) -> u8 {
+        self.facts
+    }
+
+    // A fact stands for itself.
+    fn item(&self, d: Fact) -> Option<Fact> {
+        (d.0 < self.facts).then_some(d)
+    }
+
+    // Procedure 0 with each fact, by number.
+    #[tactic(auto, using(flow::proofs::Starts::start_at))]
+    fn start(&self, i: u8) -> Option<Start> {
+        let start = Start {
+            procedure: Proc(0),
+            fact: Fact(i),
+        };
+        (i < self.facts).then_some(start)
+    }
+
+    fn follows(&self, edge: Edge, d: Fact, e: Fact) -> bool {
+        edge.exists()
+            && d.0 < self.facts
+            && e.0 < self.facts
+            && bit_in(self.bytes.as_slice(), row_number(self.facts, edge, d), e.0)
+    }
+}
