@@ -2,3 +2,4 @@ pub mod Report
 pub mod Outcome
 pub mod Told
 pub mod Listed
+pub mod Rooms

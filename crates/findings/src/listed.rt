@@ -1,6 +1,7 @@
 // The reports of a listing, under both problems about cells.
 ghost use Rattle.std.specs.Prelude.{◌≡◌, IfOk, string_bytes};
 ghost use Rattle.findings.specs.Listed.{both_told, told_of, Told, ListingTold};
+ghost use Rattle.findings.specs.Rooms.{sheet_room};
 
 use crate::room::Room;
 use crate::told::report;
@@ -65,4 +66,12 @@ pub fn report_listing(heap: Global, bytes: &[u8], room: Room) -> Result<String, 
     ensures law { IfOk result (λ s. ListingTold bytes.now room (string_bytes s)) }
 {
     tell(heap, bytes, &Reports { room })
+}
+
+// The sheet of a listing: the same, in the room of a sheet.
+pub fn sheet(heap: Global, bytes: &[u8]) -> Result<String, AllocError>
+    ensures text { IfOk result (λ s. string_bytes s ≡ told_of bytes.now sheet_room) }
+    ensures law { IfOk result (λ s. ListingTold bytes.now sheet_room (string_bytes s)) }
+{
+    report_listing(heap, bytes, Room::of_sheet())
 }

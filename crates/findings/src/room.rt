@@ -1,4 +1,6 @@
 // How much a report may take.
+ghost use Rattle.std.specs.Prelude.{◌≡◌};
+ghost use Rattle.findings.specs.Rooms.{sheet_room};
 
 // So many records for the table, and a page of so many bytes.
 #[derive(Clone, Copy)]
@@ -7,8 +9,15 @@ pub struct Room {
     pub page: usize,
 }
 
-// The room for each report of a sheet.
-pub const SHEET: Room = Room {
-    records: 3000,
-    page: 16384,
-};
+impl Room {
+    // The room for each report of a sheet.
+    #[tactic(auto, unfolding(crate::specs::Rooms::sheet_room))]
+    pub(crate) fn of_sheet() -> Room
+        ensures { result ≡ sheet_room }
+    {
+        Room {
+            records: 3000,
+            page: 16384,
+        }
+    }
+}

@@ -1,8 +1,7 @@
 // Prints the reports of each of 84 listings.
 #![tactic(auto)]
 
-use findings::listed::report_listing;
-use findings::room::SHEET;
+use findings::listed::sheet;
 use std::fs;
 use text::input::take_listing;
 
@@ -10,7 +9,7 @@ fn tell(rt: &HostRuntime, n: u8) -> anyhow::Result<()> {
     let name = format!(in rt.alloc(); "{n:03}")?;
     let listing = format!(in rt.alloc(); "{name}.txt")?;
     let bytes = take_listing(rt.alloc(), fs::open(rt, listing.as_str())?)?;
-    let told = report_listing(rt.alloc(), bytes.as_slice(), SHEET)?;
+    let told = sheet(rt.alloc(), bytes.as_slice())?;
     print!(rt; "{name}\n{told}")?;
     Ok(())
 }
