@@ -1,5 +1,5 @@
-//! Listings with the sheets they must give, from a folder that VECTORS names: NNN.txt and NNN.out. Without it the folder ../shared/vectors
-//! beside the repository is tried, and where there is none the test says so and passes.
+//! The listings that the program `sheets` of this repository prints the sheets of, with the answers that it is held to: in its file `stdout` each
+//! listing's number stands in a line, and its sheet behind that.
 
 use std::path::PathBuf;
 
@@ -7,30 +7,17 @@ use bench::sheet::sheet;
 
 #[test]
 fn sheets() {
-    let named = std::env::var_os("VECTORS").map(PathBuf::from);
-    let folder = named.clone().unwrap_or_else(|| {
-        [env!("CARGO_MANIFEST_DIR"), "..", "..", "shared", "vectors"]
-            .iter()
-            .collect()
-    });
-    let Ok(files) = std::fs::read_dir(&folder) else {
-        assert!(named.is_none(), "VECTORS: no folder {}", folder.display());
-        println!("no folder {}: nothing compared", folder.display());
-        return;
-    };
+    let folder: PathBuf = [env!("CARGO_MANIFEST_DIR"), "..", "crates", "sheets"].iter().collect();
+    let answers = std::fs::read_to_string(folder.join("stdout")).unwrap();
+    let mut printed = String::new();
     let mut compared = 0;
-    let mut wrong = vec![];
-    for file in files {
-        let path = file.unwrap().path();
-        if path.extension().is_some_and(|e| e == "txt") {
-            let want = std::fs::read(path.with_extension("out")).unwrap();
-            if sheet(&std::fs::read(&path).unwrap()) != want {
-                wrong.push(path.display().to_string());
-            }
-            compared += 1;
-        }
+    for n in 1.. {
+        let Ok(listing) = std::fs::read(folder.join("data").join(format!("{n:03}.txt"))) else { break };
+        printed += &format!("{n:03}\n");
+        printed += std::str::from_utf8(&sheet(&listing)).unwrap();
+        compared += 1;
     }
-    println!("{compared} listings compared, {} differ", wrong.len());
-    assert!(compared > 0, "no listings in {}", folder.display());
-    assert!(wrong.is_empty(), "{wrong:?}");
+    println!("{compared} listings compared");
+    assert!(compared > 0);
+    assert!(printed == answers, "the sheets differ");
 }
