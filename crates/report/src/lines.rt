@@ -20,7 +20,8 @@ impl<S: Stage> Report<S> {
     // before any run.
     pub fn begin(table: Staged<S>) -> Report<S>
         requires { S.closed ≡ true }
-        ensures { reported result ≡ begun (state table) }
+        ensures begun { reported result ≡ begun (state table) }
+        ensures table { result.table ≡ table }
     {
         Report {
             table,
@@ -60,6 +61,7 @@ impl<S: Stage> Report<S> {
     // Writes the next line at the page's next free place: whether one was left.
     pub fn line(&mut self, page: &mut [u8]) -> Result<bool, Fault>
         ensures lines { Lines (reported self.old) page.old (one_if_yes result) page.new (reported self.new) }
+        ensures table { self.new.table ≡ self.old.table }
         ensures all { result ≡ Ok false → (reported self.new).lines ≡ length (pairs_of (reported self.new).table) }
     {
         let Some(pair) = self.next_pair() else {
