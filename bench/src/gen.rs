@@ -731,3 +731,16 @@ fn work(rng: &mut Rng, ends: usize, k: Option<u32>) -> Call {
         _ => Call::Newest(k),
     }
 }
+
+/// The listing of a case of this number: now and then one whose trails nest deep or are long, with the relation that makes them so.
+pub fn case_listing(rng: &mut Rng, shape: &Shape, number: u64) -> (Vec<u8>, Option<Given>) {
+    let special = match number % 20 {
+        7 => Some(deep(rng)),
+        13 => Some(long(rng)),
+        _ => None,
+    };
+    match special {
+        Some((text, relation)) => (text, Some(relation)),
+        None => (listing(rng, shape), None),
+    }
+}

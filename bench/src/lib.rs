@@ -11,3 +11,13 @@ pub mod solve;
 pub mod table;
 pub mod verified;
 pub mod wire;
+
+/// Runs on a roomy stack: nothing is known of how much the verified library needs.
+pub fn on_roomy_stack(work: impl FnOnce() + Send + 'static) {
+    std::thread::Builder::new()
+        .stack_size(256 << 20)
+        .spawn(work)
+        .unwrap()
+        .join()
+        .unwrap();
+}

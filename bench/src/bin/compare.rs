@@ -137,18 +137,11 @@ fn through_tabulate(lib: &mut dyn Library, rep: &mut Report, seed: u64, i: u64) 
     let long = i % 64 == 5;
     let most = if long { 1000 } else { *rng.pick(&[40, 40, 40, 70]) };
     let shape = gen::shape(&mut rng, most, 6);
-    let special = match i % 20 {
-        7 => Some(gen::deep(&mut rng)),
-        13 => Some(gen::long(&mut rng)),
-        _ => None,
-    };
-    let text = special
-        .as_ref()
-        .map_or_else(|| gen::listing(&mut rng, &shape), |s| s.0.clone());
+    let (text, special) = gen::case_listing(&mut rng, &shape, i);
     let prog = read(&text).expect("a listing that is made to be good");
     // a random relation, or one of the two about cells
     let r = match rng.below(8) {
-        _ if special.is_some() => special.unwrap().1,
+        _ if special.is_some() => special.unwrap(),
         0 => Given::of(&prog, &Cells::of(Which::Unset, &prog)),
         1 => Given::of(&prog, &Cells::of(Which::Raw, &prog)),
         _ => {
@@ -356,11 +349,5 @@ fn main() {
             std::process::exit(1);
         }
     };
-    // a roomy stack: nothing is known of how much the library needs
-    std::thread::Builder::new()
-        .stack_size(256 << 20)
-        .spawn(work)
-        .unwrap()
-        .join()
-        .unwrap();
+    bench::on_roomy_stack(work);
 }

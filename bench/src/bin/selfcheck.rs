@@ -292,14 +292,7 @@ fn main() {
         // random relations
         let mut rng = Rng::of_case(seed, 1, i);
         let shape = gen::shape(&mut rng, if i % 16 == 0 { 70 } else { 40 }, 6);
-        let special = match i % 20 {
-            7 => Some(gen::deep(&mut rng)),
-            13 => Some(gen::long(&mut rng)),
-            _ => None,
-        };
-        let text = special
-            .as_ref()
-            .map_or_else(|| gen::listing(&mut rng, &shape), |s| s.0.clone());
+        let (text, special) = gen::case_listing(&mut rng, &shape, i);
         let case = || format!("seed {seed} case {i}\n{}", String::from_utf8_lossy(&text));
         let prog = match read(&text) {
             Ok(p) => p,
@@ -311,7 +304,7 @@ fn main() {
             }
         };
         let r = match special {
-            Some((_, r)) => r,
+            Some(r) => r,
             None => {
                 let f = gen::facts(&mut rng);
                 gen::relation(&mut rng, prog.points(), f)

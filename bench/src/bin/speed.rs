@@ -40,12 +40,7 @@ fn per_cell(t: Duration, cells: usize) -> f64 {
 }
 
 fn main() {
-    std::thread::Builder::new()
-        .stack_size(256 << 20)
-        .spawn(work)
-        .unwrap()
-        .join()
-        .unwrap();
+    bench::on_roomy_stack(work);
 }
 
 fn work() {
