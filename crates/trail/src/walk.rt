@@ -48,7 +48,7 @@ impl Walk {
     }
 
     // Goes back over the move to the cell. It is refused where that leads into another callee, and there is no room for its record.
-    pub fn back(self, table: &ClosedTable, calls: &mut [Record]) -> Result<Stride, Full>
+    pub(crate) fn back(self, table: &ClosedTable, calls: &mut [Record]) -> Result<Stride, Full>
         requires cell { let t = state table.now in self.cell < t.points * t.facts * t.facts }
         requires height { self.height ≤ length calls.old }
         ensures { Strides (state table.now) self calls.old result calls.new }
