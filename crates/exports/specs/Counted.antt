@@ -11,6 +11,7 @@ use Rattle.paths.specs.Memory.{Rec, blank}
 use Rattle.text.specs.Reading.{reading}
 use Rattle.findings.specs.Outcome.{settled}
 use Rattle.tabled_problem.specs.Rows.{tabled, count_in_range}
+use Rattle.exports.specs.Rows.{rows_of}
 
 -- a memory with a record for each cell, each of a cell that is not found
 abbrev pub blanks : Handed → List Rec
@@ -24,18 +25,23 @@ cells_settled h starts = (settled h starts (blanks h)).settled
 abbrev pub Fits : Meaning → List ℕ → ℕ → Type 0
 Fits m bytes f = (count_in_range f ≡ true) × (length bytes ≡ size m * 4 * f * 8)
 
--- over the relation of f facts that the bytes give, from procedure 0 with every fact
+-- over the relation of f facts that the rows give, from procedure 0 with every fact
+abbrev pub settled_by_rows : Meaning → List ℕ → ℕ → ℕ
+settled_by_rows m rows f = cells_settled (handed m (tabled rows f) f) (from_each 0 f)
+
+-- the same of the rows that bytes give
 abbrev pub settled_of_all : Meaning → List ℕ → ℕ → ℕ
-settled_of_all m bytes f = cells_settled (handed m (tabled bytes f) f) (from_each 0 f)
+settled_of_all m bytes f = settled_by_rows m (rows_of bytes) f
 
 -- of the problem unset, from its default starts
 abbrev pub settled_of_unset : Meaning → ℕ
 settled_of_unset m = cells_settled (posed Unset m.globals m.locals m) (starts_of Unset m.globals m.locals)
 
--- the count of a listing that is read
+-- the count for a listing that is read and a relation of f facts, from procedure 0 with every fact
 abbrev pub CountOfAll : List ℕ → List ℕ → ℕ → ℕ → Type 0
 CountOfAll listing bytes f count = (m : Meaning) × (reading listing ≡ Ok m) × Fits m bytes f × (count ≡ settled_of_all m bytes f)
 
+-- the count for a listing that is read, under the problem unset
 abbrev pub CountOfUnset : List ℕ → ℕ → Type 0
 CountOfUnset listing count = (m : Meaning) × (reading listing ≡ Ok m) × (count ≡ settled_of_unset m)
 

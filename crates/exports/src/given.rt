@@ -3,7 +3,9 @@ ghost use Rattle.std.specs.Prelude.{◌≡◌, ◌*◌, IfSome, Ok};
 ghost use Rattle.listing.specs.Meaning.{size};
 ghost use Rattle.text.specs.Reading.{reading, meaning_of};
 ghost use Rattle.exports.specs.Counted.{Fits};
+ghost use Rattle.exports.specs.Rows.{rows_of};
 
+use crate::rows::rows_of;
 use listing::program::Program;
 use std::alloc::Global;
 use tabled_problem::problem::TabledProblem;
@@ -34,11 +36,11 @@ pub(crate) fn problem_of<P: Program>(
     facts: u8,
 ) -> Option<TabledProblem>
     ensures fits { IfSome result (λ _. Fits (P.meaning program.now) relation.now facts) }
-    ensures bytes { IfSome result (λ q. q.bytes.items ≡ relation.now) }
+    ensures rows { IfSome result (λ q. q.rows.items ≡ rows_of relation.now) }
     ensures facts { IfSome result (λ q. q.facts ≡ facts) }
 {
     if relation.len() == bytes_for(program, facts) {
-        TabledProblem::new(relation.to_vec(alloc).ok()?, facts)
+        TabledProblem::new(rows_of(alloc, relation).ok()?, facts)
     } else {
         None
     }

@@ -6,6 +6,7 @@ mod call;
 mod copying;
 mod counts;
 mod given;
+mod rows;
 mod run;
 mod settling;
 mod tabulation;

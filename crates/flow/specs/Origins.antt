@@ -1,4 +1,4 @@
--- Facts of cells: fact c + 1 speaks of cell c.
+-- Where the facts of cells come from, over each kind of edge.
 use Rattle.std.specs.Prelude.{ℕ, ◌+◌, Bool, false, cond, not, ◌&&◌, ◌||◌, Some, None, Option, ◌==◌, nat_le, nat_lt}
 use Rattle.listing.specs.declared.cells.CellCounts.{CellCounts}
 use Rattle.listing.specs.declared.numbers.Cell.{Cell}
@@ -12,6 +12,7 @@ use Rattle.flow.specs.declared.origin.Origin.{Origin}
 use Rattle.flow.specs.declared.origin.Origin.TheVariants.{Nothing, Zero, One, Two}
 use Rattle.flow.specs.declared.origin.Write.{Write}
 
+-- fact e speaks of cell c
 abbrev pub speaks : ℕ → Cell → Bool
 speaks e c = e == c.0 + 1
 
@@ -27,11 +28,12 @@ abbrev pub carried : Option Write → ℕ → ℕ → Bool
 carried None d e = d == e
 carried (Some w) d e = cond (speaks e w.to) (comes w.from d) (d == e)
 
--- the cell that a call writes and its argument
+-- the cells of a call: the one that gets the result, and the argument
 pub record Site : Type 0 where
   pub to : Cell
   pub argument : Cell
 
+-- the cells of a statement that is a call; another has none
 abbrev pub site : Statement Cell → Option Site
 site (Set d) = None
 site (Move d s) = None
@@ -44,6 +46,7 @@ site (Call d p s) = Some (record { to = d; argument = s })
 site (Ret s) = None
 site (Trim d s) = None
 
+-- a test of the cells of a call; no where there is no call
 abbrev pub at_call : Option Site → (Site → Bool) → Bool
 at_call None test = false
 at_call (Some c) test = test c
@@ -71,5 +74,6 @@ over g write local (edge.Return n s v) d e = returned g s v d e
 abbrev pub ruled_in : ℕ → ℕ → (Statement Cell → Option Write) → Origin → Rule
 ruled_in g l write local = guarded (facts_in g l) (λ x. over g (write (statement_of x)) local x)
 
+-- the same over a program's counts of cells
 abbrev pub ruled : CellCounts → (Statement Cell → Option Write) → Origin → Rule
 ruled c write local = ruled_in c.globals c.locals write local

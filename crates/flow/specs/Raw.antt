@@ -22,9 +22,10 @@ raw_write (statement.Call d p s) = None
 raw_write (statement.Ret s) = None
 raw_write (statement.Trim d s) = Some (record { to = d; from = Nothing })
 
--- of the callee's locals, all but the first follow from nothing
+-- which cells may hold a raw reading, of g globals and l locals: of the callee's locals, all but the first follow from nothing
 abbrev pub raw_in : ℕ → ℕ → Rule
 raw_in g l = ruled_in g l raw_write Nothing
 
+-- the same over a program's counts of cells
 abbrev pub raw : CellCounts → Rule
 raw c = raw_in c.globals c.locals

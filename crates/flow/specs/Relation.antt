@@ -8,6 +8,7 @@ use Rattle.listing.specs.declared.statement.Statement.{Statement}
 use Rattle.flow.specs.declared.edge.Edge.{Edge}
 use Rattle.flow.specs.declared.edge.Edge.TheVariants.{Step, Past, Call, Return}
 
+-- a relation: whether, over an edge, a second fact follows from a first
 abbrev pub Rule : Type 0
 Rule = Edge → ℕ → ℕ → Bool
 
@@ -16,6 +17,7 @@ pub record Few (f : ℕ) : Type 0 where
   pub some : 1 ≤ f
   pub most : f ≤ 64
 
+-- a call
 abbrev pub is_call : Control → Bool
 is_call control.Next = false
 is_call (control.Goto k) = false
@@ -39,22 +41,22 @@ statement_of (Call n s) = s
 statement_of (Return n s v) = s
 
 -- the statement has an edge of this kind
-abbrev pub has : Edge → Bool
-has (Step n s) = is_plain (controlled s)
-has (Past n s) = is_call (controlled s)
-has (Call n s) = is_call (controlled s)
-has (Return n s v) = is_call (controlled s)
+abbrev pub exists : Edge → Bool
+exists (Step n s) = is_plain (controlled s)
+exists (Past n s) = is_call (controlled s)
+exists (Call n s) = is_call (controlled s)
+exists (Return n s v) = is_call (controlled s)
 
 -- facts from F on, and an edge that the statement lacks, are answered by no
 pub record Within (f : ℕ) (rule : Rule) : Type 0 where
   pub from : (x : Edge) (d e : ℕ) → rule x d e ≡ true → d < f
   pub to : (x : Edge) (d e : ℕ) → rule x d e ≡ true → e < f
-  pub lacks : (x : Edge) (d e : ℕ) → has x ≡ false → rule x d e ≡ false
+  pub lacks : (x : Edge) (d e : ℕ) → exists x ≡ false → rule x d e ≡ false
 
 -- zero follows from zero on every edge that there is, and from nothing else
 abbrev pub KeepsZero : Rule → Type 0
-KeepsZero rule = (x : Edge) (d : ℕ) → has x ≡ true → rule x d 0 ≡ (d == 0)
+KeepsZero rule = (x : Edge) (d : ℕ) → exists x ≡ true → rule x d 0 ≡ (d == 0)
 
 -- a rule that keeps to F facts and to the edges that there are, with zero from zero alone; the rest as `body` says
 abbrev pub guarded : ℕ → Rule → Rule
-guarded f body x d e = has x && (nat_lt d f && (nat_lt e f && cond (e == 0) (d == 0) (body x d e)))
+guarded f body x d e = exists x && (nat_lt d f && (nat_lt e f && cond (e == 0) (d == 0) (body x d e)))

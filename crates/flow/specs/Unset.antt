@@ -22,9 +22,10 @@ unset_write (statement.Call d p s) = None
 unset_write (statement.Ret s) = None
 unset_write (statement.Trim d s) = Some (record { to = d; from = (One s) })
 
--- of the callee's locals, all but the first follow from zero
+-- which cells may be unset, of g globals and l locals: of the callee's locals, all but the first follow from zero
 abbrev pub unset_in : ℕ → ℕ → Rule
 unset_in g l = ruled_in g l unset_write Zero
 
+-- the same over a program's counts of cells
 abbrev pub unset : CellCounts → Rule
 unset c = unset_in c.globals c.locals

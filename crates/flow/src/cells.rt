@@ -1,6 +1,7 @@
 // Problems about cells: a fact for each cell, beside zero.
-ghost use Rattle.std.specs.Prelude.{◌≡◌, ℕ, ◌+◌, nat_lt};
+ghost use Rattle.std.specs.Prelude.{◌≡◌, ℕ, ◌+◌, ◌<◌, ◌&&◌, nat_lt, nat_le};
 ghost use Rattle.std.specs.List.{slice_get};
+ghost use Rattle.fact_set.specs.Sets.{has};
 ghost use Rattle.flow.specs.CellFacts.{facts_of, spoken, from_each};
 ghost use Rattle.flow.specs.Guarded.{guarded_within, guarded_zero};
 ghost use Rattle.flow.specs.Origins.{comes, over, ruled};
@@ -9,8 +10,9 @@ ghost use Rattle.std.proofs.Common.{arith, rules};
 
 use crate::edge::Edge;
 use crate::interface::{Problem, Start};
-use crate::origin::{Origin, cell_of};
+use crate::origin::{Origin, Write, cell_of};
 use crate::rule::CellRule;
+use fact_set::FactSet;
 pub use listing::cells::CellCounts;
 use listing::numbers::{Cell, Fact, Proc};
 use listing::statement::Statement;
@@ -92,6 +94,63 @@ impl<R: CellRule> CellProblem<R> {
             _ => Origin::Nothing,
         }
     }
+
+    // Zero, and the facts of the globals.
+    #[tactic(auto, using(crate::proofs::Targets::up_to))]
+    fn global_facts(&self) -> FactSet
+        ensures { (e : ℕ) → has result e ≡ nat_le e self.now.counts.globals }
+    {
+        FactSet::below(self.counts.globals() + 1)
+    }
+
+    // The nonzero facts below 64 that follow from d over an edge; zero is left to the caller.
+    fn cell_targets(&self, edge: Edge, d: Fact) -> FactSet
+        requires { d.0 < 64 }
+        ensures { (e : ℕ) → has result e ≡ (nat_lt e 64 && over self.now.counts.globals (R.writes (statement_of edge)) R.other_locals edge d.0 e) }
+    {
+        let own = FactSet::only(d);
+        let globals = self.global_facts();
+        match edge {
+            // a fact from itself, but the written cell's from what is written
+            Edge::Step { statement, .. } => match self.rule.write(statement) {
+                Some(write) => write.onto(own, d),
+                None => own,
+            },
+            // past a call: a local's from itself, but that of the call's own from nothing
+            Edge::Past {
+                statement: Statement::Call { to, .. },
+                ..
+            } => {
+                let from = Origin::Nothing;
+                Write { to, from }.onto(own.difference(globals), d)
+            }
+            // into the callee: a global's from itself, local 0's from the argument's, another local's as the rule says
+            Edge::Call {
+                statement: Statement::Call { argument, .. },
+                ..
+            } => {
+                let to = Cell(self.counts.globals());
+                let from = Origin::One(argument);
+                let kept = Write { to, from }.onto(own.intersection(globals), d);
+                let other_locals = FactSet::below(64).from(self.counts.globals() + 2);
+                if self.rule.other_locals().sources().has(d) {
+                    kept.union(other_locals)
+                } else {
+                    kept
+                }
+            }
+            // back from the callee: a global's from itself, but that of the call's own cell from the returned cell's
+            Edge::Return {
+                statement: Statement::Call { to, .. },
+                result,
+                ..
+            } => {
+                let from = Origin::One(result);
+                Write { to, from }.onto(own.intersection(globals), d)
+            }
+            _ => FactSet::empty(),
+        }
+    }
 }
 
 impl<R: CellRule> Problem for CellProblem<R> {
@@ -135,14 +194,29 @@ impl<R: CellRule> Problem for CellProblem<R> {
     }
 
     fn follows(&self, edge: Edge, d: Fact, e: Fact) -> bool {
+        self.sources(edge, e).has(d)
+    }
+
+    fn targets(&self, edge: Edge, d: Fact) -> FactSet {
         let facts = self.facts();
-        if !edge.exists() || d.0 >= facts || e.0 >= facts {
-            return false;
+        if !edge.exists() || d.0 >= facts {
+            return FactSet::empty();
+        }
+        // zero follows from zero alone
+        let zero = FactSet::only(d).intersection(FactSet::only(Fact(0)));
+        let nonzero = self.cell_targets(edge, d).from(1);
+        zero.union(nonzero).intersection(FactSet::below(facts))
+    }
+
+    fn sources(&self, edge: Edge, e: Fact) -> FactSet {
+        let facts = self.facts();
+        if !edge.exists() || e.0 >= facts {
+            return FactSet::empty();
         }
         let origin = match cell_of(e) {
             None => Origin::Zero,
             Some(cell) => self.origin(edge, cell),
         };
-        origin.gives(d)
+        origin.sources().intersection(FactSet::below(facts))
     }
 }

@@ -1,12 +1,12 @@
-// The moves of an analysis.
+// The edges of a program.
 ghost use Rattle.std.specs.Prelude.{◌≡◌};
-ghost use Rattle.flow.specs.Relation.{has, statement_of};
+ghost use Rattle.flow.specs.Relation.{exists, statement_of};
 
 use listing::control::Control;
 use listing::numbers::{Cell, Point};
 use listing::statement::Statement;
 
-// A move, with the point that it leaves and the statement there; for a return, those of the call, and the cell that the
+// An edge, with the point that it leaves and the statement there; for a return, those of the call, and the cell that the
 // callee returns.
 // A struct of a point, a statement and a kind is no plainer: the definitions of paths go by cases over these four, and only a
 // return has a result.
@@ -38,7 +38,7 @@ pub enum Edge {
 impl Edge {
     // Whether the statement has an edge of this kind.
     pub fn exists(&self) -> bool
-        ensures { result ≡ has self.now }
+        ensures { result ≡ exists self.now }
     {
         match self {
             Edge::Step { statement, .. } => {

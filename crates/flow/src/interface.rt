@@ -1,10 +1,12 @@
 // A problem, by its count of facts and the relation between them.
 ghost use Rattle.std.specs.Prelude.{◌≡◌, ℕ, List, Option};
 ghost use Rattle.std.specs.List.{slice_get};
+ghost use Rattle.fact_set.specs.Sets.{has};
 ghost use Rattle.flow.specs.declared.interface.Start.{Start};
 ghost use Rattle.flow.specs.Relation.{Rule, Few, Within, KeepsZero};
 
 use crate::edge::Edge;
+use fact_set::FactSet;
 use listing::numbers::{Fact, Proc};
 
 // The entry of a procedure with a fact.
@@ -54,6 +56,14 @@ pub trait Problem {
     // Whether fact e follows from fact d over an edge.
     fn follows(&self, edge: Edge, d: Fact, e: Fact) -> bool
         ensures { result ≡ relation self.now edge d.0 e.0 };
+
+    // The facts that follow from a fact over an edge.
+    fn targets(&self, edge: Edge, d: Fact) -> FactSet
+        ensures { (e : ℕ) → has result e ≡ relation self.now edge d.0 e };
+
+    // The facts from which a fact follows over an edge.
+    fn sources(&self, edge: Edge, e: Fact) -> FactSet
+        ensures { (d : ℕ) → has result d ≡ relation self.now edge d e.0 };
 
     ghost few: { (q : Self) → Few (count q) };
 

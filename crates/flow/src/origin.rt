@@ -1,8 +1,10 @@
 // Where the fact of a cell comes from.
-ghost use Rattle.std.specs.Prelude.{◌≡◌};
+ghost use Rattle.std.specs.Prelude.{◌≡◌, ℕ, ◌<◌, ◌&&◌, cond, nat_lt};
+ghost use Rattle.fact_set.specs.Sets.{has};
 ghost use Rattle.flow.specs.CellFacts.{spoken_of};
-ghost use Rattle.flow.specs.Origins.{comes};
+ghost use Rattle.flow.specs.Origins.{comes, speaks};
 
+use fact_set::FactSet;
 use listing::numbers::{Cell, Fact};
 
 #[derive(Clone, Copy)]
@@ -31,17 +33,42 @@ pub(crate) fn cell_of(fact: Fact) -> Option<Cell>
     fact.0.checked_sub(1).map(Cell)
 }
 
+// The fact that speaks of a cell, if it is below 64.
+#[tactic(auto, using(crate::proofs::Targets::next_below))]
+fn fact_about(cell: Cell) -> FactSet
+    ensures { (e : ℕ) → has result e ≡ (nat_lt e 64 && speaks e cell) }
+{
+    FactSet::only(Fact(cell.0.saturating_add(1)))
+}
+
 impl Origin {
-    // Whether a fact that comes from here follows from d.
-    pub(crate) fn gives(self, d: Fact) -> bool
-        ensures { result ≡ comes self d.0 }
+    // The facts below 64 from which a fact that comes from here follows.
+    #[tactic(auto, using(crate::proofs::Targets::either_below))]
+    pub(crate) fn sources(self) -> FactSet
+        ensures { (d : ℕ) → has result d ≡ (nat_lt d 64 && comes self d) }
     {
-        let source = cell_of(d);
         match self {
-            Origin::Nothing => false,
-            Origin::Zero => source.is_none(),
-            Origin::One(a) => source == Some(a),
-            Origin::Two(a, b) => source == Some(a) || source == Some(b),
+            Origin::Nothing => FactSet::empty(),
+            Origin::Zero => FactSet::only(Fact(0)),
+            Origin::One(a) => fact_about(a),
+            Origin::Two(a, b) => fact_about(a).union(fact_about(b)),
+        }
+    }
+}
+
+impl Write {
+    // The kept facts, with the written cell's put in if it follows from d, and else taken out.
+    #[tactic(auto, using(crate::proofs::Targets::written))]
+    pub(crate) fn onto(self, kept: FactSet, d: Fact) -> FactSet
+        requires { d.0 < 64 }
+        ensures { (e : ℕ) → has result e ≡ cond (nat_lt e 64 && speaks e self.to) (comes self.from d.0) (has kept e) }
+    {
+        let written = fact_about(self.to);
+        let others = kept.difference(written);
+        if self.from.sources().has(d) {
+            others.union(written)
+        } else {
+            others
         }
     }
 }

@@ -1,9 +1,10 @@
 -- A relation as a table of bits: for each point from 0 on, for each of the kinds step, past, call and return, a row for each of F facts.
--- A row has 8 bytes, little endian: bit e of row d says that fact e follows from fact d. The bits beyond the bytes are 0.
-use Rattle.std.specs.Prelude.{ℕ, ◌+◌, ◌*◌, ◌/◌, ◌%◌, ◌^◌, Bool, cond, ◌&&◌, ◌==◌, List, get_or, nat_lt, nat_le, Option, Some, None}
+-- A row is a number of 64 bits: bit e of row d says that fact e follows from fact d. Rows beyond the last are 0.
+use Rattle.std.specs.Prelude.{ℕ, ◌+◌, ◌*◌, Bool, cond, ◌&&◌, ◌==◌, List, get_or, nat_lt, nat_le, Option, Some, None}
+use Rattle.std.specs.Int.{bit_at}
 use Rattle.listing.specs.declared.numbers.Fact.{Fact}
 use Rattle.listing.specs.declared.numbers.Point.{Point}
-use Rattle.flow.specs.Relation.{Rule, has}
+use Rattle.flow.specs.Relation.{exists, Rule}
 use Rattle.flow.specs.declared.edge.Edge.{Edge}
 use Rattle.flow.specs.declared.edge.Edge.TheVariants.{Step, Past, Call, Return}
 
@@ -25,17 +26,13 @@ place_of_kind (Return n s v) = 3
 abbrev pub row_number : ℕ → Edge → ℕ → ℕ
 row_number f x d = ((point_left x).0 * 4 + place_of_kind x) * f + d
 
--- a bit of a byte
-abbrev pub bit_of : ℕ → ℕ → Bool
-bit_of byte bit = byte / 2 ^ bit % 2 == 1
-
--- a bit of a row: its byte bit / 8 has it, at bit % 8
+-- a bit of a row
 abbrev pub bit_in : List ℕ → ℕ → ℕ → Bool
-bit_in bytes row bit = bit_of (get_or bytes (row * 8 + bit / 8) 0) (bit % 8)
+bit_in rows row bit = bit_at (get_or rows row 0) bit == 1
 
--- the relation of F facts that the bytes give: facts from F on, and an edge that the statement lacks, are answered by no
+-- the relation of F facts that the rows give: facts from F on, and an edge that the statement lacks, are answered by no
 abbrev pub tabled : List ℕ → ℕ → Rule
-tabled bytes f x d e = has x && (nat_lt d f && (nat_lt e f && bit_in bytes (row_number f x d) e))
+tabled rows f x d e = exists x && (nat_lt d f && (nat_lt e f && bit_in rows (row_number f x d) e))
 
 -- so many facts may be given
 abbrev pub count_in_range : ℕ → Bool

@@ -1,16 +1,17 @@
-// A problem given by the bytes of its table.
+// A problem given by its table.
 ghost use Rattle.std.specs.Prelude.{◌≡◌, ◌≤◌};
 
-use crate::rows::{bit_in, row_number};
+use crate::rows::{facts_in, only_if, row_number};
+use fact_set::FactSet;
 use flow::edge::Edge;
 use flow::interface::{Problem, Start};
 use listing::numbers::{Fact, Proc};
 
-// So many facts, and for each point, for each kind of edge, a row of 8 bytes for each fact: which facts follow from it. Any relation may be given
-// so, and nothing is known of zero. The bytes are owned, since a type with a lifetime cannot give a trait's constant yet.
+// So many facts, and for each point, for each kind of edge, a row for each fact: which facts follow from it. Any relation may be given so, and
+// nothing is known of zero. The rows are owned, since a type with a lifetime cannot give a trait's constant yet.
 #[derive(Drop)]
 pub struct TabledProblem {
-    bytes: Vec<u8>,
+    rows: Vec<u64>,
     facts: u8,
     ghost some: { 1 ≤ facts },
     ghost few: { facts ≤ 64 },
@@ -20,14 +21,14 @@ impl TabledProblem {
     ghost use Rattle.std.specs.Prelude.{true, false, MatchOption};
     ghost use Rattle.tabled_problem.specs.Rows.{count_in_range};
 
-    // The problem of so many facts that the bytes give, if there may be so many facts.
-    pub fn new(bytes: Vec<u8>, facts: u8) -> Option<TabledProblem>
+    // The problem of so many facts that the rows give, if there may be so many facts.
+    pub fn new(rows: Vec<u64>, facts: u8) -> Option<TabledProblem>
         ensures { MatchOption result
             (count_in_range facts ≡ false)
-            (λ q. (count_in_range facts ≡ true) × (q.bytes.items ≡ bytes.items) × (q.facts ≡ facts)) }
+            (λ q. (count_in_range facts ≡ true) × (q.rows.items ≡ rows.items) × (q.facts ≡ facts)) }
     {
         if (1..=64).contains(&facts) {
-            Some(TabledProblem { bytes, facts })
+            Some(TabledProblem { rows, facts })
         } else {
             None
         }
@@ -47,7 +48,7 @@ impl Problem for TabledProblem {
 
     ghost count = { λ q. q.facts };
 
-    ghost relation = { λ q. tabled q.bytes.items q.facts };
+    ghost relation = { λ q. tabled q.rows.items q.facts };
 
     ghost stands = { λ q. itself q.facts };
 
@@ -85,9 +86,25 @@ impl Problem for TabledProblem {
     }
 
     fn follows(&self, edge: Edge, d: Fact, e: Fact) -> bool {
-        edge.exists()
-            && d.0 < self.facts
-            && e.0 < self.facts
-            && bit_in(self.bytes.as_slice(), row_number(self.facts, edge, d), e.0)
+        self.targets(edge, d).has(e)
+    }
+
+    fn targets(&self, edge: Edge, d: Fact) -> FactSet {
+        if edge.exists() && d.0 < self.facts {
+            let row = row_number(self.facts, edge, d);
+            facts_in(self.rows.as_slice(), row).intersection(FactSet::below(self.facts))
+        } else {
+            FactSet::empty()
+        }
+    }
+
+    // Each fact is asked in turn, since a row tells only what follows.
+    fn sources(&self, edge: Edge, e: Fact) -> FactSet {
+        let mut sources = FactSet::empty();
+        for d in 0..self.facts {
+            let d = Fact(d);
+            sources = sources.union(only_if(self.follows(edge, d, e), d));
+        }
+        sources
     }
 }

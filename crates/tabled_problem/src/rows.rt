@@ -1,7 +1,9 @@
 // The rows of bits by which a relation is given.
-ghost use Rattle.std.specs.Prelude.{◌≡◌, ◌<◌, ◌^◌};
+ghost use Rattle.std.specs.Prelude.{◌≡◌, ℕ, ◌&&◌, ◌==◌, nat_lt};
+ghost use Rattle.fact_set.specs.Sets.{has};
 ghost use Rattle.tabled_problem.specs.Rows.{point_left, place_of_kind, row_number, bit_in};
 
+use fact_set::FactSet;
 use flow::edge::Edge;
 use listing::numbers::{Fact, Point};
 
@@ -37,11 +39,20 @@ pub(crate) fn row_number(facts: u8, edge: Edge, d: Fact) -> usize
     kind * usize::from(facts) + usize::from(d.0)
 }
 
-// A bit of a row of 8 bytes, little endian; 0 beyond the bytes.
-pub(crate) fn bit_in(bytes: &[u8], row: usize, bit: u8) -> bool
-    requires { row < 2 ^ 32 }
-    ensures { result ≡ bit_in bytes.now row bit }
+// The facts in a row; none beyond the rows.
+pub(crate) fn facts_in(rows: &[u64], row: usize) -> FactSet
+    ensures { (e : ℕ) → has result e ≡ bit_in rows.now row e }
 {
-    let byte = bytes.get(row * 8 + usize::from(bit / 8));
-    byte.is_some_and(|byte| (byte >> (bit % 8)) & 1 == 1)
+    FactSet(rows.get(row).copied().unwrap_or(0))
+}
+
+// A fact alone, if it holds and is below 64; otherwise none.
+pub(crate) fn only_if(holds: bool, fact: Fact) -> FactSet
+    ensures { (e : ℕ) → has result e ≡ (holds && (nat_lt e 64 && e == fact.0)) }
+{
+    if holds {
+        FactSet::only(fact)
+    } else {
+        FactSet::empty()
+    }
 }

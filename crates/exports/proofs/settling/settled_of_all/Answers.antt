@@ -6,5 +6,5 @@ returns c =
     let text = c.in_ok-program.program in
     let problem = c.in_ok-problem.problem in
     of_all c.args.listing.now text.delivered.bytes.now c.in_ok-program.ensures.reads c.in_ok-program.ensures.holds
-    c.args.relation.now problem.bytes.items problem.facts c.args.facts c.in_ok-problem.ensures.bytes c.in_ok-problem.ensures.facts c.in_ok-problem.ensures.fits
+    c.args.relation.now problem.rows.items problem.facts c.args.facts c.in_ok-problem.ensures.rows c.in_ok-problem.ensures.facts c.in_ok-problem.ensures.fits
     c.settled.result c.settled.ensures
