@@ -4,6 +4,7 @@ use Rattle.listing.specs.Refusals.{refused_text}
 use Rattle.records.specs.declared.fault.Fault.{Fault}
 use Rattle.records.specs.declared.fault.Fault.TheVariants.{Memory, Counts, Range, Waiting, Unreached, Unwritten, Full}
 
+-- the number of the question that is answered no
 abbrev pub number_of : Fault → ℕ
 number_of Memory = 11
 number_of Counts = 12
@@ -13,6 +14,7 @@ number_of Unreached = 15
 number_of Unwritten = 16
 number_of Full = 17
 
+-- the place that a refusal tells: 0 with each of these
 abbrev pub place_of : Fault → ℕ
 place_of f = 0
 

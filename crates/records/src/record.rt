@@ -2,6 +2,7 @@
 ghost use Rattle.std.specs.Prelude.{◌≡◌, replicate, IfOk};
 ghost use Rattle.records.specs.Blank.{blank};
 
+use fact_set::FactSet;
 use moves::moves::Kind;
 use std::alloc::{AllocError, Global};
 
@@ -17,6 +18,8 @@ pub struct Record {
     pub second: u32,
     // the table's own: the row of the cells that wait lies in these
     pub slot: u32,
+    // the table's own: in record n × F + a, the facts d whose cell (n, a, d) is found
+    pub found: FactSet,
 }
 
 impl Record {
@@ -30,8 +33,10 @@ impl Record {
             first: 0,
             second: 0,
             slot: 0,
+            found: FactSet::empty(),
         }
     }
+
     // So many records, each of a cell that is not found.
     pub fn blanks(heap: Global, count: usize) -> Result<Vec<Record>, AllocError>
         ensures { IfOk result (λ v. v.items ≡ replicate count blank) }

@@ -1,5 +1,5 @@
 -- What finding keeps, over several findings.
-use Rattle.std.proofs.Common.{◌≡◌, ℕ, drop, vec_items, sym, refl, ap, ◌∙◌, arith}
+use Rattle.std.proofs.Common.{◌≡◌, ℕ, ◌*◌, ◌<◌, drop, vec_items, sym, refl, ap, ◌∙◌, arith}
 use Rattle.paths.specs.Table.{number_of}
 use Rattle.table.specs.Settling.{Stands, CallStands, EntryStands, ReturnStands}
 use Rattle.table.specs.Records.{at}
@@ -26,6 +26,11 @@ kept_then s t u h k = record {
 
 pub found_still : (s t : Core) (c : ℕ) → Kept s t → Found s c → Found t c
 found_still s t c k f = record { within = omega (arith, f.within, k.size); ranked = k.stays c f.ranked }
+
+pub block_still : (s t : Core) (b : ℕ) → Kept s t → b < s.points * s.facts → b < t.points * t.facts
+block_still s t b k h =
+    let e : s.points * s.facts ≡ t.points * t.facts = ap (λ (n : ℕ). n * s.facts) (sym k.points) ∙ ap (λ (f : ℕ). t.points * f) (sym k.facts) in
+    omega arith
 
 pub led_still : (s t : Core) (by : Lead) → Kept s t → Led s by → Led t by
 led_still s t Start k l = tt

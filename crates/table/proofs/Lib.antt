@@ -1,11 +1,17 @@
 pub mod Writing
+pub mod Marks
+pub mod Blocks
 pub mod Sounds
 pub mod Finds
 pub mod Numbers
 pub mod Kept
+pub mod Noting
 pub mod Leads
 pub mod Rows
 pub mod Turns
+pub mod Sets
+pub mod Returning
+pub mod Coming
 pub mod Onward
 pub mod Callers
 pub mod Settles

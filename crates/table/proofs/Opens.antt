@@ -1,5 +1,8 @@
 -- A table as it is opened.
-use Rattle.std.proofs.Common.{◌≡◌, ℕ, zero, suc, ◌*◌, ◌<◌, ◌≤◌, true, false, List, [], ◌∷◌, ◌++◌, map, length, take, drop, replicate, sym, refl, ap, ◌∙◌, mul-le-mul, mul-pos, arith}
+use Rattle.std.proofs.Common.{◌≡◌, ℕ, zero, suc, ◌*◌, ◌<◌, ◌≤◌, true, false, List, [], ◌∷◌, ◌++◌, Bool, ◌&&◌, ◌==◌, ◌+◌, nat_lt, map, length, take, drop, replicate, sym, refl, ap, ◌∙◌, inl, inr, mul-le-mul, mul-pos, arith}
+use Rattle.std.proofs.lemmas.Bool.{cases_lt}
+use Rattle.std.proofs.lemmas.Nat.Bits.{bit_at-zero}
+use Rattle.fact_set.specs.Sets.{has}
 use mathlib.Core.List.{map-append}
 use Rattle.std.proofs.lemmas.List.{take_at, drop-map, length-replicate, length-append, length-map, get_or_append_left, get_or-replicate}
 use Rattle.paths.specs.Does.{Handed, Newly}
@@ -9,6 +12,8 @@ use Rattle.records.specs.Blank.{blank}
 use Rattle.table.specs.Records.{at, holders, leans_first, leans_second}
 use Rattle.table.specs.State.{rec, state_of}
 use Rattle.records.specs.declared.record.Record.{Record}
+use Rattle.table.proofs.Blocks.{Blocks, block_below, cell_below, lt_yes, lt_no}
+use Rattle.table.proofs.Numbers.{some_facts}
 use Rattle.table.proofs.Sounds.{Sound}
 
 all_blank : (k : ℕ) → holders 0 (replicate k blank) ≡ k
@@ -61,6 +66,18 @@ module _ (rs : List Record) (k : ℕ) (held : k ≤ length rs) where
     slots = λ c h. (let b = ap (λ (r : Record). r.slot) (at_blank c h) in omega arith);
     waits = λ c p l. absurd (omega arith);
   }
+
+  pub opened_blocks : (n f : ℕ) → k ≡ n * f * f → 0 < k → Blocks cleared n f
+  opened_blocks n f e some b d h =
+      let p : 0 < f = some_facts n f (omega arith) in
+      let in_size : b < k = (let z = block_below n f b p h in omega arith) in
+      let l : has (at cleared b).found d ≡ false = ap (λ (r : Record). has r.found d) (at_blank b in_size) ∙ ap (λ (x : ℕ). x == 1) (bit_at-zero d) in
+      l ∙ elim (cases_lt d f) [
+        | inl y ↦
+            (let r : at cleared (b * f + d) ≡ blank = at_blank (b * f + d) (let z = cell_below n f b d h y in omega arith) in
+            sym (ap (λ (x : Record). nat_lt d f && nat_lt 0 x.rank) r ∙ ap (λ (x : Bool). x && false) (lt_yes d f y)))
+        | inr y ↦ sym (ap (λ (x : Bool). x && nat_lt 0 (at cleared (b * f + d)).rank) (lt_no d f y))
+      ]
 
   pub opened_state : (n f : ℕ) → k ≡ n * f * f → state_of cleared n f 0 0 0 ≡ newly_in n f (map rec rs)
   opened_state n f e =

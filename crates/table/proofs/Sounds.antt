@@ -4,9 +4,11 @@ use Rattle.std.proofs.lemmas.List.{get_or-take, length-take-le}
 use Rattle.std.proofs.lemmas.Bool.{cases_eq}
 use Rattle.moves.specs.declared.moves.Kind.{Kind}
 use Rattle.records.specs.Blank.{blank}
-use Rattle.table.specs.Records.{at, has_rank, holders, leans_first, leans_second, written, entered}
+use Rattle.fact_set.specs.declared.FactSet.{FactSet}
+use Rattle.table.specs.Records.{at, has_rank, holders, leans_first, leans_second, written, entered, marked}
 use Rattle.records.specs.declared.record.Record.{Record}
 use Rattle.table.specs.declared.state.Core.{Core}
+use Rattle.table.proofs.Marks.{plain, plain_marked, length_marked, holders_marked}
 use Rattle.table.proofs.Writing.{bare, rank_yes, rank_no, holders_some, holders_none, new_length, bare_here, bare_other, slot_here, slot_other, rank_stays, new_holders}
 
 pub record Sound (rs : List Record) (points facts size found head tail : ℕ) : Type 0 where
@@ -171,3 +173,54 @@ module _ {rs : List Record} {points facts size found head tail : ℕ} (s : Sound
             omega arith)
       ];
     }
+
+-- another set of found facts changes none of it
+module _ {rs : List Record} {points facts size found head tail : ℕ} (s : Sound rs points facts size found head tail) (b : ℕ) (x : FactSet) (in_size : b < size) where
+  inside : b < length rs
+  inside = omega (arith, s.held)
+
+  abbrev ms : List Record
+  ms = marked rs b x
+
+  same : (c : ℕ) → plain (at ms c) ≡ plain (at rs c)
+  same = plain_marked rs b x inside
+
+  rank_same : (c : ℕ) → (at ms c).rank ≡ (at rs c).rank
+  rank_same c = ap (λ (r : Record). r.rank) (same c)
+
+  first_rank : (c : ℕ) → (at ms (at ms c).first).rank ≡ (at rs (at rs c).first).rank
+  first_rank c = rank_same _ ∙ ap (λ (r : Record). (at rs r.first).rank) (same c)
+
+  second_rank : (c : ℕ) → (at ms (at ms c).second).rank ≡ (at rs (at rs c).second).rank
+  second_rank c = rank_same _ ∙ ap (λ (r : Record). (at rs r.second).rank) (same c)
+
+  slot_rank : (c : ℕ) → (at ms (at ms c).slot).rank ≡ (at rs (at rs c).slot).rank
+  slot_rank c = rank_same _ ∙ ap (λ (r : Record). (at rs r.slot).rank) (same c)
+
+  leans_1 : (c : ℕ) → leans_first (at ms c).kind ≡ true → leans_first (at rs c).kind ≡ true
+  leans_1 c e = sym (ap (λ (r : Record). leans_first r.kind) (same c)) ∙ e
+
+  leans_2 : (c : ℕ) → leans_second (at ms c).kind ≡ true → leans_second (at rs c).kind ≡ true
+  leans_2 c e = sym (ap (λ (r : Record). leans_second r.kind) (same c)) ∙ e
+
+  pub marked_sound : Sound ms points facts size found head tail
+  marked_sound = record {
+    few_points = s.few_points;
+    few_facts = s.few_facts;
+    product = s.product;
+    some = s.some;
+    held = omega (arith, s.held, length_marked rs b x inside);
+    counted = omega (arith, s.counted, holders_marked rs b x inside size s.held in_size 0);
+    ranks = λ c h. omega (arith, s.ranks c h, rank_same c);
+    once = λ r p l. holders_marked rs b x inside size s.held in_size r ∙ s.once r p l;
+    firsts = λ c h. (let e = ap (λ (r : Record). r.first) (same c) in omega (arith, s.firsts c h));
+    seconds = λ c h. (let e = ap (λ (r : Record). r.second) (same c) in omega (arith, s.seconds c h));
+    first_found = λ c h e. omega (arith, s.first_found c h (leans_1 c e), first_rank c);
+    first_before = λ c h e. omega (arith, s.first_before c h (leans_1 c e), first_rank c, rank_same c);
+    second_found = λ c h e. omega (arith, s.second_found c h (leans_2 c e), second_rank c);
+    second_before = λ c h e. omega (arith, s.second_before c h (leans_2 c e), second_rank c, rank_same c);
+    ordered = s.ordered;
+    pushed = s.pushed;
+    slots = λ k h. (let e = ap (λ (r : Record). r.slot) (same k) in omega (arith, s.slots k h));
+    waits = λ k l h. omega (arith, s.waits k l h, slot_rank k);
+  }

@@ -1,5 +1,5 @@
 -- The turns of a loop.
-use Rattle.std.proofs.Common.{◌≡◌, ℕ, ◌+◌, ◌≤◌, Bool, true, sym, refl, ap, ◌∙◌, add-one, arith}
+use Rattle.std.proofs.Common.{◌≡◌, ℕ, zero, suc, ◌+◌, ◌-◌, ◌<◌, ◌≤◌, Bool, true, sym, refl, ap, ◌∙◌, add-one, arith}
 use Rattle.paths.specs.Tabled.{Tabled, each, where_yes}
 use Rattle.table.specs.State.{inner, Kept}
 use Rattle.table.specs.declared.state.Core.{Core}
@@ -34,3 +34,25 @@ all_turns f s t i w l m =
 -- a step that is taken
 pub taken_yes : (b : Bool) (f : Tabled → Tabled) (t u : Tabled) → true ≡ b → u ≡ f t → u ≡ where_yes b f t
 taken_yes b f t u y e = e ∙ ap (λ (x : Bool). where_yes x f t) y
+
+-- turns in which nothing is done
+skip : (f : ℕ → Tabled → Tabled) (s t : Tabled) (i n : ℕ) → t ≡ each i f s → ((k : ℕ) → i ≤ k → k < i + n → f k t ≡ t) → t ≡ each (i + n) f s
+skip f s t i zero h idle = let e : i ≡ i + 0 = omega arith in h ∙ ap (λ (m : ℕ). each m f s) e
+skip f s t i (suc n) h idle =
+    let r = skip f s t i n h (λ k l m. idle k l (omega arith)) in
+    let e : suc (i + n) ≡ i + suc n = omega arith in
+    sym (idle (i + n) (omega arith) (omega arith)) ∙ ap (f (i + n)) r ∙ ap (λ (m : ℕ). each m f s) e
+
+pub skip_to : (f : ℕ → Tabled → Tabled) (s t : Tabled) (i j : ℕ) → i ≤ j → t ≡ each i f s → ((k : ℕ) → i ≤ k → k < j → f k t ≡ t) → t ≡ each j f s
+skip_to f s t i j l h idle =
+    let n : ℕ = j - i in
+    let e : i + n ≡ j = omega arith in
+    skip f s t i n h (λ k m o. idle k m (omega arith)) ∙ ap (λ (m : ℕ). each m f s) e
+
+pub skip_turns : (f : ℕ → ℕ → Tabled → Tabled) (s t : Core) (i j : ℕ) → Turned f s t i → i ≤ j
+    → ((k : ℕ) → i ≤ k → k < j → f s.facts k (inner t) ≡ inner t) → Turned f s t j
+skip_turns f s t i j w l idle = record { kept = w.kept; after = skip_to (f s.facts) (inner s) (inner t) i j l w.after idle }
+
+-- a loop in which nothing is done
+pub all_idle : (f : ℕ → Tabled → Tabled) (n : ℕ) (t : Tabled) → ((k : ℕ) → k < n → f k t ≡ t) → t ≡ each n f t
+all_idle f n t idle = skip_to f t t 0 n (omega arith) refl (λ k l h. idle k h)

@@ -26,7 +26,7 @@ rank_yes k r e = rw (eq-eqb r.rank k e) refl
 pub rank_no : (k : ℕ) (r : Record) → (r.rank ≡ k → ⊥) → has_rank k r ≡ 0
 rank_no k r n = rw (ne_eqb r.rank k n) refl
 
-holders_set : (k : ℕ) (rs : List Record) (i : ℕ) (r : Record) → i < length rs → holders k (set rs i r) + has_rank k (at rs i) ≡ holders k rs + has_rank k r
+pub holders_set : (k : ℕ) (rs : List Record) (i : ℕ) (r : Record) → i < length rs → holders k (set rs i r) + has_rank k (at rs i) ≡ holders k rs + has_rank k r
 holders_set k [] i r h = absurd (not-suc-le-zero h)
 holders_set k (x ∷ rs) zero r h = omega arith
 holders_set k (x ∷ rs) (suc i) r h = omega (arith, holders_set k rs i r (le_of_suc-le-suc h))

@@ -3,4 +3,5 @@ pub mod Leads
 pub mod State
 pub mod Worklist
 pub mod Settling
+pub mod Seen
 pub mod Told

@@ -2,6 +2,7 @@
 use Rattle.std.specs.Prelude.{ℕ, ◌+◌, Bool, true, false, cond, List, [], ◌∷◌, set, Some, None, Option, ◌==◌, slice_index_or, slice_set}
 use Rattle.moves.specs.declared.moves.Kind.{Kind}
 use Rattle.moves.specs.declared.moves.Kind.TheVariants as kind
+use Rattle.fact_set.specs.declared.FactSet.{FactSet}
 use Rattle.records.specs.Blank.{blank}
 use Rattle.records.specs.declared.record.Record.{Record}
 
@@ -36,13 +37,21 @@ leans_second (Some kind.Past) = false
 leans_second (Some kind.Call) = false
 leans_second (Some kind.Return) = true
 
--- the same record with another number in the table's own field
+-- the same record with another number in the table's own slot
 abbrev pub slotted : Record → ℕ → Record
-slotted r k = record { rank = r.rank; kind = r.kind; first = r.first; second = r.second; slot = k }
+slotted r k = record { rank = r.rank; kind = r.kind; first = r.first; second = r.second; slot = k; found = r.found }
 
--- the record of a found cell, whose own field stays
+-- the record of a found cell, whose own fields stay
 abbrev pub written : Record → ℕ → Kind → ℕ → ℕ → Record
-written r rank kind first second = record { rank = rank; kind = Some kind; first = first; second = second; slot = r.slot }
+written r rank kind first second = record { rank = rank; kind = Some kind; first = first; second = second; slot = r.slot; found = r.found }
+
+-- the same record with another set of found facts
+abbrev pub noted : Record → FactSet → Record
+noted r s = record { rank = r.rank; kind = r.kind; first = r.first; second = r.second; slot = r.slot; found = s }
+
+-- the memory with another set of found facts in record b
+abbrev pub marked : List Record → ℕ → FactSet → List Record
+marked rs b s = slice_set rs b (noted (at rs b) s)
 
 -- the memory after a cell is written and its number put into the slot at `tail`
 abbrev pub entered : List Record → ℕ → ℕ → Kind → ℕ → ℕ → ℕ → List Record

@@ -1,5 +1,7 @@
 -- What settling finds, in the parts in which it is done.
-use Rattle.std.specs.Prelude.{◌≡◌, ℕ, ◌+◌, ◌<◌, ◌≤◌, Some, None, Option}
+use Rattle.std.specs.Prelude.{◌≡◌, ℕ, ◌+◌, ◌*◌, ◌<◌, ◌≤◌, true, Some, None, Option}
+use Rattle.fact_set.specs.Sets.{has}
+use Rattle.fact_set.specs.declared.FactSet.{FactSet}
 use Rattle.listing.specs.Meaning.{Meaning, flow, size, procs, statement_at}
 use Rattle.listing.specs.Procedures.{entry, exit}
 use Rattle.listing.specs.declared.numbers.Point.{Point}
@@ -16,7 +18,7 @@ use Rattle.paths.specs.Supergraph.{successors, Follows}
 use Rattle.paths.specs.Table.{cell, number_of}
 use Rattle.paths.specs.Tabled.{Tabled, find, is_found, each, each_of, where_yes}
 use Rattle.table.specs.Leads.{kind_of, first_of, second_of}
-use Rattle.table.specs.State.{cell_of, Inside, Found}
+use Rattle.table.specs.State.{inner, cell_of, block_of, Inside, Found}
 use Rattle.table.specs.declared.sites.Callee.{Callee}
 use Rattle.table.specs.declared.sites.CallSite.{CallSite}
 use Rattle.table.specs.declared.sites.Lead.{Lead}
@@ -83,6 +85,48 @@ pub record ReturnStands (t : Core) (x : ReturnSite) : Type 0 where
 abbrev pub finds_entry : ℕ → CallSite → ℕ → Tabled → Tabled
 finds_entry F x e = find kind.Call x.site.cell 0 (number_of F (cell x.callee.entry.0 e e))
 
+-- the cell of block b with the fact e is found, where e is in the set s
+abbrev pub finds_one : ℕ → FactSet → Lead → ℕ → ℕ → Tabled → Tabled
+finds_one F s by b e = where_yes (has s e) (find (kind_of by) (first_of by) (second_of by) (b * F + e))
+
+-- the cells of block b with the facts of a set are found, in ascending order
+abbrev pub finds : ℕ → FactSet → Lead → ℕ → Tabled → Tabled
+finds F s by b = each F (finds_one F s by b)
+
+-- every fact of the set has its cell of block b found
+abbrev pub AllFound : FactSet → ℕ → Core → Type 0
+AllFound s b t = (e : ℕ) → e < t.facts → has s e ≡ true → is_found (b * t.facts + e) (inner t) ≡ true
+
+-- every fact of the set has its cell of point n found, under every origin
+abbrev pub HasAll : FactSet → ℕ → Core → Type 0
+HasAll s n t = (b : ℕ) → b < t.facts → AllFound s (block_of t.facts n b) t
+
+-- back from an exit cell, with the facts of the set y, to the cell of a call under the origin b with the fact f, where that is found and
+-- f is in the set x
+abbrev pub returns_one : ℕ → FactSet → FactSet → ReturnSite → ℕ → ℕ → Tabled → Tabled
+returns_one F x y s b f t = where_yes (both (is_found (number_of F (cell s.caller.at.0 b f)) t) (has x f))
+    (finds F y (lead.Return (number_of F (cell s.caller.at.0 b f)) s.exit.cell) (block_of F (s.caller.at.0 + 1) b)) t
+
+-- back to the cells of a call under the origin b, with every fact of x
+abbrev pub returns_block : ℕ → FactSet → FactSet → ReturnSite → ℕ → Tabled → Tabled
+returns_block F x y s b = each F (returns_one F x y s b)
+
+-- back to the cells of a call, under every origin
+abbrev pub returns : ℕ → FactSet → FactSet → ReturnSite → Tabled → Tabled
+returns F x y s = each F (returns_block F x y s)
+
+-- over the edge x from fact d, every fact that follows has its cell of point m under the origin a found
+abbrev pub AllSpread : Rule → Edge → ℕ → ℕ → ℕ → Core → Type 0
+AllSpread Q x d m a t = (e : ℕ) → e < t.facts → Q x d e ≡ true → is_found (number_of t.facts (cell m a e)) (inner t) ≡ true
+
+-- to the call all has come back that its callee could give from the fact z
+abbrev pub IsBack : Rule → CallSite → ℕ → Core → Type 0
+IsBack Q x z t = AllSpread Q (edge.Return x.site.spot.point x.site.statement x.callee.result) z (x.site.spot.point.0 + 1) x.site.spot.origin.0 t
+
+-- to the call all has come back that its callee could give from the facts of a set
+abbrev pub AreBack : Rule → CallSite → FactSet → Core → Type 0
+AreBack Q x s t = (z : ℕ) → has s z ≡ true → IsBack Q x z t
+
 module _ (Q : Rule) (F : ℕ) where
   -- over the edge x from fact d: the cell of point m and fact e, under the origin a, where e follows
   abbrev pub spread_fact : Edge → ℕ → Lead → ℕ → ℕ → ℕ → Tabled → Tabled
@@ -92,10 +136,11 @@ module _ (Q : Rule) (F : ℕ) where
   abbrev pub spread : Edge → ℕ → Lead → ℕ → ℕ → Tabled → Tabled
   spread x d by m a = each F (spread_fact x d by m a)
 
-  -- from a site to one successor, and to all
+  -- from a site to one of its successors
   abbrev pub step_to : Site → ℕ → Tabled → Tabled
   step_to x m = spread (edge.Step x.spot.point x.statement) x.spot.fact.0 (lead.Step x.cell) m x.spot.origin.0
 
+  -- from a site to each of its successors
   abbrev pub steps : Site → Tabled → Tabled
   steps x = each_of (successors x.spot.point.0 x.statement) (step_to x)
 
@@ -103,11 +148,12 @@ module _ (Q : Rule) (F : ℕ) where
   abbrev pub passes : CallSite → Tabled → Tabled
   passes x = spread (edge.Past x.site.spot.point x.site.statement) x.site.spot.fact.0 (lead.Past x.site.cell) (x.site.spot.point.0 + 1) x.site.spot.origin.0
 
-  -- back to a call from the cell (exit, e, z) of its callee, where that is found; and from those of every z
+  -- back to a call from the cell (exit, e, z) of its callee, where that is found
   abbrev pub comes_back : CallSite → ℕ → ℕ → Tabled → Tabled
   comes_back x e z t = where_yes (is_found (number_of F (cell x.callee.exit.0 e z)) t)
       (spread (edge.Return x.site.spot.point x.site.statement x.callee.result) z (lead.Return x.site.cell (number_of F (cell x.callee.exit.0 e z))) (x.site.spot.point.0 + 1) x.site.spot.origin.0) t
 
+  -- back to a call from every found cell of its callee's exit under the origin e
   abbrev pub all_come_back : CallSite → ℕ → Tabled → Tabled
   all_come_back x e = each F (comes_back x e)
 
@@ -115,21 +161,23 @@ module _ (Q : Rule) (F : ℕ) where
   abbrev pub enters_at : CallSite → ℕ → Tabled → Tabled
   enters_at x e t = all_come_back x e (finds_entry F x e t)
 
-  -- the same where the fact follows; and with every fact
+  -- the same where the fact follows
   abbrev pub enters : CallSite → ℕ → Tabled → Tabled
   enters x e = where_yes (Q (edge.Call x.site.spot.point x.site.statement) x.site.spot.fact.0 e) (enters_at x e)
 
+  -- into the callee with every fact that follows
   abbrev pub all_enter : CallSite → Tabled → Tabled
   all_enter x = each F (enters x)
 
-  -- from an exit cell to a call: to its cell (at, b, f), where that is found and the exit's origin follows from f; to those of every f, and
-  -- of every b
+  -- from an exit cell to a call: to its cell (at, b, f), where that is found and the exit's origin follows from f
   abbrev pub answers_cell : ReturnSite → ℕ → ℕ → Tabled → Tabled
   answers_cell x b f t = where_yes (both (is_found (number_of F (cell x.caller.at.0 b f)) t) (Q (edge.Call x.caller.at x.caller.statement) f x.exit.spot.origin.0))
       (spread (edge.Return x.caller.at x.caller.statement x.caller.result) x.exit.spot.fact.0 (lead.Return (number_of F (cell x.caller.at.0 b f)) x.exit.cell) (x.caller.at.0 + 1) b) t
 
+  -- from an exit cell to the cells of a call under the origin b
   abbrev pub answers_row : ReturnSite → ℕ → Tabled → Tabled
   answers_row x b = each F (answers_cell x b)
 
+  -- from an exit cell to the cells of a call, under every origin
   abbrev pub answers : ReturnSite → Tabled → Tabled
   answers x = each F (answers_row x)

@@ -1,5 +1,5 @@
 -- The state of a table, as its calls' definitions speak of it.
-use Rattle.std.specs.Prelude.{true, false, ◌≡◌, ℕ, ◌-◌, ◌<◌, List, map, take, drop, Some, None, vec_items, Option}
+use Rattle.std.specs.Prelude.{true, false, ◌≡◌, ℕ, ◌+◌, ◌*◌, ◌-◌, ◌<◌, List, map, take, drop, Some, None, vec_items, Option}
 use Rattle.moves.specs.declared.moves.Kind.{Kind}
 use Rattle.moves.specs.Words.{code}
 use Rattle.paths.specs.Does.{Handed}
@@ -22,14 +22,15 @@ abbrev pub code_in : Option Kind → ℕ
 code_in None = 0
 code_in (Some k) = code k
 
--- a record without the table's own field
+-- a record without the table's own fields
 abbrev pub rec : Record → Rec
 rec r = record { rank = r.rank; kind = code_in r.kind; first = r.first; second = r.second }
 
--- the numbers in the slots from head to tail
+-- the numbers in the slots from head to tail: the row of the cells that wait
 abbrev pub row : List Record → ℕ → ℕ → List ℕ
 row rs head tail = map (λ r. r.slot) (take (tail - head) (drop head rs))
 
+-- the state of a table with these records, N, F, number found, and ends of the row
 abbrev pub state_of : List Record → ℕ → ℕ → ℕ → ℕ → ℕ → Tabled
 state_of rs points facts found head tail = record {
   points = points;
@@ -40,19 +41,23 @@ state_of rs points facts found head tail = record {
   waiting = row rs head tail;
 }
 
+-- the state of a table, whatever its stage
 abbrev pub inner : Core → Tabled
 inner t = state_of (vec_items t.records) t.points t.facts t.found t.head t.tail
 
--- the stages of a table
+-- the stage of a table that is open
 abbrev pub is_open : Stage Open
 is_open = record { closed = false }
 
+-- the stage of a table that is closed
 abbrev pub is_closed : Stage Closed
 is_closed = record { closed = true }
 
+-- an open table
 abbrev pub OpenTable : Type 0
 OpenTable = Staged Open is_open
 
+-- a closed table
 abbrev pub ClosedTable : Type 0
 ClosedTable = Staged Closed is_closed
 
@@ -67,6 +72,10 @@ spare t = drop t.size (vec_items t.records)
 -- the cell that a spot stands for
 abbrev pub cell_of : Spot → TableCell
 cell_of s = cell s.point.0 s.origin.0 s.fact.0
+
+-- the block of the cells (n, a, 0) to (n, a, F - 1): with fact d it makes the cell's number
+abbrev pub block_of : ℕ → ℕ → ℕ → ℕ
+block_of F n a = n * F + a
 
 -- the spot is one of the table's cells
 pub record Inside (t : Core) (s : Spot) : Type 0 where

@@ -58,24 +58,27 @@ pub record NewlyMade (h : Handed) (memory : Memory) (c : Core) : Type 0 where
   pub usage : Usage h (inner c)
   pub exact : ExactFrom h (inner c)
 
--- open gives such a table; or it refuses, and gives the memory back as it was
+-- open made a table in the memory
 pub record Opened (h : Handed) (memory : Memory) (t : OpenTable) : Type 0 where
   pub answers : open_answer h (map rec (vec_items memory)) ≡ gives 0
   pub made : NewlyMade h memory t.core
 
+-- open refused, and the memory comes back as it was
 pub record NotOpened (h : Handed) (memory : Memory) (e : Refusal Memory) : Type 0 where
   pub answers : open_answer h (map rec (vec_items memory)) ≡ refuses (number_of e.fault)
   pub back : e.back ≡ memory
 
+-- what open answers and leaves
 abbrev pub Opens : Handed → Memory → Result OpenTable (Refusal Memory) → Type 0
 Opens h memory (Ok t) = Opened h memory t
 Opens h memory (Err e) = NotOpened h memory e
 
--- the answer of close, and the state that it leaves
+-- the answer of close
 abbrev pub closed : Result ClosedTable (Refusal OpenTable) → Answer
 closed (Ok t) = gives 0
 closed (Err e) = refuses (number_of e.fault)
 
+-- the state that close leaves
 abbrev pub left_closed : Result ClosedTable (Refusal OpenTable) → State
 left_closed (Ok t) = Closed (state t)
 left_closed (Err e) = Open (state e.back)
@@ -105,5 +108,6 @@ abbrev pub Arrives : Tabled → ℕ → Option Arrival → Type 0
 Arrives t c (Some a) = Arrived t c a
 Arrives t c None = t.points * t.facts * t.facts ≤ c
 
+-- the tallies of a table
 abbrev pub tallied : Tabled → Tallies
 tallied t = record { found = t.found; settled = t.settled; waiting = length t.waiting }

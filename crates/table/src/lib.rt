@@ -2,5 +2,6 @@
 #![tactic(auto)]
 
 pub mod arrival;
+mod seen;
 mod sites;
 pub mod state;

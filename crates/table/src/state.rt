@@ -1,5 +1,6 @@
 // The table at its stages, open and closed. It owns the memory of its records.
-ghost use Rattle.std.specs.Prelude.{◌≡◌, Bool, false, ℕ, ◌+◌, ◌*◌, ◌<◌, ◌≤◌, true, length, take};
+ghost use Rattle.std.specs.Prelude.{◌≡◌, Bool, false, ℕ, ◌+◌, ◌*◌, ◌<◌, ◌≤◌, ◌&&◌, nat_lt, true, length, take};
+ghost use Rattle.fact_set.specs.Sets.{has};
 ghost use Rattle.table.specs.Records.{at, holders, leans_first, leans_second};
 
 use records::record::Record;
@@ -48,6 +49,8 @@ pub struct Core {
     ghost first_before: { (c : ℕ) → c < size → leans_first (at records.items c).kind ≡ true → (at records.items (at records.items c).first).rank < (at records.items c).rank },
     ghost second_found: { (c : ℕ) → c < size → leans_second (at records.items c).kind ≡ true → 0 < (at records.items (at records.items c).second).rank },
     ghost second_before: { (c : ℕ) → c < size → leans_second (at records.items c).kind ≡ true → (at records.items (at records.items c).second).rank < (at records.items c).rank },
+    // the cells (n, a, 0) to (n, a, F - 1) are block n × F + a, and the record of that number has the facts of those that are found
+    ghost blocks: { (b : ℕ) (e : ℕ) → b < points * facts → has (at records.items b).found e ≡ (nat_lt e facts && nat_lt 0 (at records.items (b * facts + e)).rank) },
     // the row
     ghost ordered: { head ≤ tail },
     ghost pushed: { tail ≤ found },

@@ -1,13 +1,14 @@
 // Cells by their numbers, and finding one.
-ghost use Rattle.std.specs.Prelude.{◌≡◌, ℕ, ◌+◌, ◌<◌, ◌≤◌, true, false, vec_len};
-ghost use Rattle.paths.specs.Table.{number_of};
+ghost use Rattle.std.specs.Prelude.{◌≡◌, ℕ, ◌+◌, ◌*◌, ◌<◌, ◌≤◌, ◌&&◌, ◌||◌, ◌==◌, nat_lt, true, false, vec_len};
+ghost use Rattle.fact_set.specs.Sets.{has};
 ghost use Rattle.paths.specs.Tabled.{cell_at, find, is_found};
 ghost use Rattle.table.specs.Leads.{kind_of, first_of, second_of};
-ghost use Rattle.table.specs.Records.{entered};
-ghost use Rattle.table.specs.State.{inner, cell_of, Inside, Found, Led, Kept};
+ghost use Rattle.table.specs.Records.{at, entered, marked};
+ghost use Rattle.table.specs.State.{inner, cell_of, block_of, Inside, Found, Led, Kept};
 
 use crate::sites::{Lead, Spot};
 use crate::state::Core;
+use fact_set::FactSet;
 use listing::numbers::{Fact, Point};
 use records::record::Record;
 
@@ -17,26 +18,52 @@ fn enter(records: &mut Vec<Record>, cell: u32, rank: u32, by: Lead, tail: u32)
     ensures { records.new.items ≡ entered records.old.items cell rank (kind_of by) (first_of by) (second_of by) tail }
 {
     let at = cell as usize;
-    let slot = records[at].slot;
+    let Record { slot, found, .. } = records[at];
     records[at] = Record {
         rank,
         kind: Some(by.kind()),
         first: by.first(),
         second: by.second(),
         slot,
+        found,
     };
     records[tail as usize].slot = cell;
 }
 
+// Writes down that the cell of a block with a fact is found.
+fn mark(records: &mut Vec<Record>, block: u32, fact: Fact)
+    requires { block < vec_len records.old }
+    ensures marked { records.new.items ≡ marked records.old.items block (at records.new.items block).found }
+    ensures found { (e : ℕ) → has (at records.new.items block).found e ≡ (has (at records.old.items block).found e || (nat_lt e 64 && e == fact.0)) }
+{
+    let at = block as usize;
+    records[at].found = records[at].found.union(FactSet::only(fact));
+}
+
 impl Core {
-    // The number of a cell.
-    pub(super) fn number(&self, spot: Spot) -> u32
-        ensures value { result ≡ number_of self.now.facts (cell_of spot) }
-        ensures within { Inside self.now spot → result < self.now.size }
+    // The number of the block of a point under an origin.
+    pub(super) fn block(&self, point: Point, origin: Fact) -> u32
+        ensures value { result ≡ block_of self.now.facts point.0 origin.0 }
+        ensures within { point.0 < self.now.points → origin.0 < self.now.facts → result < self.now.points * self.now.facts }
     {
-        let facts = u32::from(self.facts);
-        (u32::from(spot.point.0) * facts + u32::from(spot.origin.0)) * facts
-            + u32::from(spot.fact.0)
+        u32::from(point.0) * u32::from(self.facts) + u32::from(origin.0)
+    }
+
+    // The number of the cell of a block with a fact.
+    pub(super) fn cell(&self, block: u32, fact: Fact) -> u32
+        requires { block < self.now.points * self.now.facts }
+        ensures value { result ≡ block * self.now.facts + fact.0 }
+        ensures within { fact.0 < self.now.facts → result < self.now.size }
+    {
+        block * u32::from(self.facts) + u32::from(fact.0)
+    }
+
+    // The facts of a block whose cells are found.
+    pub(super) fn found_in(&self, block: u32) -> FactSet
+        requires { block < self.now.points * self.now.facts }
+        ensures { (e : ℕ) → has result e ≡ (nat_lt e self.now.facts && is_found (block * self.now.facts + e) (inner self.now)) }
+    {
+        self.records[block as usize].found
     }
 
     // The cell that has a number.
@@ -73,32 +100,36 @@ impl Core {
         self.found + 1
     }
 
-    // Notes a cell as found, with the next rank; it waits last.
-    fn note(&mut self, cell: u32, rank: u32, by: Lead)
-        requires within { cell < self.old.size }
-        requires unfound { is_found cell (inner self.old) ≡ false }
+    // Notes the cell of a block with a fact as found, with the next rank; it waits last.
+    fn note(&mut self, block: u32, fact: Fact, rank: u32, by: Lead)
+        requires block { block < self.old.points * self.old.facts }
+        requires fact { fact.0 < self.old.facts }
+        requires unfound { is_found (block * self.old.facts + fact.0) (inner self.old) ≡ false }
         requires rank { rank ≡ self.old.found + 1 }
         requires led { Led self.old by }
         ensures kept { Kept self.old self.new }
-        ensures after { inner self.new ≡ find (kind_of by) (first_of by) (second_of by) cell (inner self.old) }
+        ensures after { inner self.new ≡ find (kind_of by) (first_of by) (second_of by) (block * self.old.facts + fact.0) (inner self.old) }
     {
+        let cell = self.cell(block, fact);
         let tail = self.tail;
         enter(&mut self.records, cell, rank, by, tail);
+        mark(&mut self.records, block, fact);
         self.found = rank;
         self.tail = tail + 1;
     }
 
-    // Finds a cell, unless it was found before.
-    pub(super) fn find(&mut self, cell: u32, by: Lead)
-        requires within { cell < self.old.size }
+    // Finds the cell of a block with a fact, unless it was found before. The block tells that, so that the cell's own record is not read.
+    pub(super) fn find(&mut self, block: u32, fact: Fact, by: Lead)
+        requires block { block < self.old.points * self.old.facts }
+        requires fact { fact.0 < self.old.facts }
         requires led { Led self.old by }
         ensures kept { Kept self.old self.new }
-        ensures after { inner self.new ≡ find (kind_of by) (first_of by) (second_of by) cell (inner self.old) }
+        ensures after { inner self.new ≡ find (kind_of by) (first_of by) (second_of by) (block * self.old.facts + fact.0) (inner self.old) }
     {
-        if self.is_found(cell) {
+        if self.found_in(block).has(fact) {
             return;
         }
-        let rank = self.next_rank(cell);
-        self.note(cell, rank, by);
+        let rank = self.next_rank(self.cell(block, fact));
+        self.note(block, fact, rank, by);
     }
 }

@@ -1,11 +1,11 @@
 // What may be read of a table.
-ghost use Rattle.std.specs.Prelude.{◌≡◌, ◌<◌, ◌≤◌};
+ghost use Rattle.std.specs.Prelude.{◌≡◌, ◌<◌, ◌≤◌, IfSome};
 ghost use Rattle.paths.specs.Words.{least_found};
+ghost use Rattle.table.specs.Records.{at};
 ghost use Rattle.table.specs.State.{inner, state};
 ghost use Rattle.table.specs.Told.{has_pair, least, Arrives};
 
 use crate::arrival::Arrival;
-use crate::sites::Spot;
 use crate::state::{Core, Stage, Staged};
 use listing::numbers::{Fact, Point};
 
@@ -18,11 +18,8 @@ impl Core {
     {
         let mut least = None;
         for a in 0..self.facts {
-            let cell = self.number(Spot {
-                point,
-                origin: Fact(a),
-                fact,
-            });
+            let block = self.block(point, Fact(a));
+            let cell = self.cell(block, fact);
             if least.is_none() && self.is_found(cell) {
                 least = Some(cell);
             }
@@ -70,7 +67,8 @@ impl<S: Stage> Staged<S> {
 
     // How a cell was found; none where the table has no cell of the number.
     pub fn arrival(&self, cell: u32) -> Option<Arrival>
-        ensures { Arrives (state self.now) cell result }
+        ensures arrives { Arrives (state self.now) cell result }
+        ensures whole { IfSome result (λ a. a.«record» ≡ at self.now.core.records.items cell) }
     {
         if cell >= self.core.size {
             return None;

@@ -9,7 +9,8 @@ ghost use Rattle.table.specs.State.{inner, state, spare, Kept, Serves};
 ghost use Rattle.table.specs.Settling.{Enters};
 ghost use Rattle.table.specs.Told.{one_if_yes, number_given, CountsStay, Stops, Portions};
 
-use crate::sites::{Lead, Spot};
+use crate::seen::Seen;
+use crate::sites::Lead;
 use crate::state::{Core, Open, Staged};
 use flow::interface::Problem;
 use listing::numbers::{Fact, Point, Proc};
@@ -42,13 +43,9 @@ impl Core {
         ensures after { inner self.new ≡ find kind.Start 0 0 (number_of self.old.facts (cell entry.0 d.0 d.0)) (inner self.old) }
         ensures kept { Kept self.old self.new }
     {
-        let cell = self.number(Spot {
-            point: entry,
-            origin: d,
-            fact: d,
-        });
-        let new = !self.is_found(cell);
-        self.find(cell, Lead::Start);
+        let block = self.block(entry, d);
+        let new = !self.is_found(self.cell(block, d));
+        self.find(block, d, Lead::Start);
         new
     }
 
@@ -62,11 +59,12 @@ impl Core {
         ensures portions { Portions (handed_by P.Program Q.Problem on.now) k end (inner self.old) (inner self.new) }
         ensures spare { spare self.new ≡ spare self.old }
     {
+        let mut seen = Seen::none();
         for done in 0..k {
             let Some(cell) = self.take(end) else {
                 return done;
             };
-            self.settle(on, cell);
+            self.settle(on, &mut seen, cell);
         }
         k
     }

@@ -1,21 +1,15 @@
-use Rattle.std.proofs.Common.{arith}
-use Rattle.table.proofs.Kept.{return_still}
-use Rattle.table.proofs.Turns.{no_turn, next_turn, all_turns}
+use Rattle.std.proofs.Common.{◌∙◌}
+use Rattle.table.specs.State.{inner}
+use Rattle.table.proofs.Coming.{answers_idle}
+use Rattle.table.proofs.Returning.{answers_is}
 use Rattle.table.proofs.state.Core.answer_call.Goals as goal
 
-pub loop-b-init : goal.loop-b-init
-loop-b-init g c = no_turn _ _
+pub returns-clause-after : goal.returns-clause-after
+returns-clause-after g c =
+    let t = c.args.self.now in
+    c.return_blocks.ensures.after
+    ∙ answers_is (g.Q.Problem.relation c.args.problem.now) t.facts _ _ c.args.site (inner t) c.entered_from.ensures c.returned-with.ensures
 
-pub answer_row-requires : goal.answer_row-requires
-answer_row-requires g c =
-    let k = c.loop-b.invariant.kept in
-    record { stands = return_still _ _ _ k c.requires; origin = omega (arith, k.facts, c.loop-b-test.true) }
-
-pub loop-b-preserved : goal.loop-b-preserved
-loop-b-preserved g c = next_turn _ _ _ _ _ c.loop-b.invariant c.answer_row.ensures.kept c.answer_row.ensures.after
-
-pub returns : goal.returns
-returns g c = record {
-  kept = c.loop-b.invariant.kept;
-  after = all_turns _ _ _ _ c.loop-b.invariant (omega (arith, c.loop-b-test.false)) (omega (arith, c.loop-b.auto.b-end));
-}
+pub returns-then-has_all-clause-after : goal.returns-then-has_all-clause-after
+returns-then-has_all-clause-after g c =
+    answers_idle (g.Q.Problem.relation c.args.problem.now) _ c.args.site c.args.self.now (c.has_all.ensures c.if-has_all.true) c.returned-with.ensures

@@ -30,14 +30,14 @@ pub returns-in_default : goal.returns-in_default
 returns-in_default g c =
     let m = g.P.Program.meaning c.args.on.now.program.now in
     let p = c.spot-spot.result.point in
-    absurd (let z = nth_none m.statements p.0 (sym c.in_default.ensures) in omega (arith, c.spot-spot.ensures.inside.point, c.requires.serves.points))
+    absurd (let z = nth_none m.statements p.0 (sym c.in_default.ensures.value) in omega (arith, c.spot-spot.ensures.inside.point, c.requires.serves.points))
 
 pub returns-in_default-callee_of : goal.returns-in_default-callee_of
 returns-in_default-callee_of g c =
     let m = g.P.Program.meaning c.args.on.now.program.now in
     let k = c.in-Call in
     absurd (let b = callee_below m (g.P.Program.lawful c.args.on.now.program.now) c.spot-spot.result.point k.to k.callee k.argument
-    (ap Some (sym k.is) ∙ c.in-Some.ensures) in omega (arith, c.in_default-callee_of.ensures))
+    (ap Some (sym k.is) ∙ c.in-Some.ensures.value) in omega (arith, c.in_default-callee_of.ensures.callee))
 
 pub settle_call-requires : goal.settle_call-requires
 settle_call-requires g c =
@@ -47,14 +47,14 @@ settle_call-requires g c =
     let spot = c.spot-spot in
     record {
       site = standing _ _ _ _ spot.ensures.value spot.ensures.inside c.requires.found;
-      next = behind m lawful _ c.requires.serves.points spot.result.point k.to k.callee k.argument (ap Some (sym k.is) ∙ c.in-Some.ensures);
-      callee = callable m lawful _ c.requires.serves.points k.callee _ c.in-Some-callee_of.ensures;
+      next = behind m lawful _ c.requires.serves.points spot.result.point k.to k.callee k.argument (ap Some (sym k.is) ∙ c.in-Some.ensures.value);
+      callee = callable m lawful _ c.requires.serves.points k.callee _ c.in-Some-callee_of.ensures.callee;
     }
 
 pub settle_ret-requires : goal.settle_ret-requires
 settle_ret-requires g c =
     let spot = c.spot-spot in
-    record { points = c.requires.serves.points; stands = standing _ _ _ _ spot.ensures.value spot.ensures.inside c.requires.found }
+    record { recalls = c.in-Some.ensures.recalls; points = c.requires.serves.points; stands = standing _ _ _ _ spot.ensures.value spot.ensures.inside c.requires.found }
 
 pub settle_plain-requires : goal.settle_plain-requires
 settle_plain-requires g c =
@@ -62,7 +62,7 @@ settle_plain-requires g c =
     let spot = c.spot-spot in
     record {
       stands = standing _ _ _ _ spot.ensures.value spot.ensures.inside c.requires.found;
-      onward = goes_on m (g.P.Program.lawful c.args.on.now.program.now) _ c.requires.serves.points spot.result.point c.in-Some.statement c.in-Some.ensures;
+      onward = goes_on m (g.P.Program.lawful c.args.on.now.program.now) _ c.requires.serves.points spot.result.point c.in-Some.statement c.in-Some.ensures.value;
     }
 
 pub returns-in-Some-callee_of : goal.returns-in-Some-callee_of
@@ -78,10 +78,11 @@ returns-in-Some-callee_of g c =
     let x : Site = record { spot = spot.result; cell = c.args.cell; statement = c.in-Some.statement } in
     record {
       kept = c.settle_call.ensures.kept;
+      recalls = c.in-Some-callee_of.ensures.recalls;
       after =
           c.settle_call.ensures.after
-          ∙ call m Q F x number k.to k.callee k.argument k.is c.in-Some-callee_of.callee c.in-Some-callee_of.ensures t
-          ∙ at_spot m Q F spot.result c.args.cell (Some (Call k.to k.callee k.argument)) t value (ap Some (sym k.is) ∙ c.in-Some.ensures)
+          ∙ call m Q F x number k.to k.callee k.argument k.is c.in-Some-callee_of.callee c.in-Some-callee_of.ensures.callee t
+          ∙ at_spot m Q F spot.result c.args.cell (Some (Call k.to k.callee k.argument)) t value (ap Some (sym k.is) ∙ c.in-Some.ensures.value)
           ∙ ap (λ (f : ℕ). settle (graph_of m) Q (size m) f (cell_at f c.args.cell) t) c.requires.serves.facts;
     }
 
@@ -95,7 +96,8 @@ returns-in-Ret g c =
     let value : cell_of spot.result ≡ cell_at F c.args.cell = spot.ensures.value in
     record {
       kept = c.settle_ret.ensures.kept;
-      after = c.settle_ret.ensures.after ∙ at_spot m Q F spot.result c.args.cell (Some (Ret c.in-Ret.from)) t value (ap Some (sym c.in-Ret.is) ∙ c.in-Some.ensures)
+      recalls = c.settle_ret.ensures.recalls;
+      after = c.settle_ret.ensures.after ∙ at_spot m Q F spot.result c.args.cell (Some (Ret c.in-Ret.from)) t value (ap Some (sym c.in-Ret.is) ∙ c.in-Some.ensures.value)
           ∙ ap (λ (f : ℕ). settle (graph_of m) Q (size m) f (cell_at f c.args.cell) t) c.requires.serves.facts;
     }
 
@@ -111,6 +113,7 @@ returns-in_default-statement g c =
     let x : Site = record { spot = spot.result; cell = c.args.cell; statement = c.in-Some.statement } in
     record {
       kept = c.settle_plain.ensures.kept;
-      after = c.settle_plain.ensures.after ∙ plain m Q F x number c.in_default-statement.not-Call c.in_default-statement.not-Ret t ∙ at_spot m Q F spot.result c.args.cell (Some c.in-Some.statement) t value c.in-Some.ensures
+      recalls = c.in-Some.ensures.recalls;
+      after = c.settle_plain.ensures.after ∙ plain m Q F x number c.in_default-statement.not-Call c.in_default-statement.not-Ret t ∙ at_spot m Q F spot.result c.args.cell (Some c.in-Some.statement) t value c.in-Some.ensures.value
           ∙ ap (λ (f : ℕ). settle (graph_of m) Q (size m) f (cell_at f c.args.cell) t) c.requires.serves.facts;
     }

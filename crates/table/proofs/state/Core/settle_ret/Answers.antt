@@ -24,7 +24,7 @@ loop-next-init g c =
     let m = g.P.Program.meaning x.on.now.program.now in
     let home = (below_some x.exit.spot.point.0 (size m) (proc (procedure (flow m) x.exit.spot.point.0)) c.in-Some.home c.in-Some.ensures).1 in
     let from = c.first_caller-next.ensures ∙ ap (λ (p : Proc). call_from (flow m) p.0 0) (sym home) in
-    (kept_same _, at_first m (g.Q.Problem.relation x.on.now.problem.now) (x.self.now.facts) x.returned x.exit (inner x.self.now) c.first_caller-next.result from)
+    (kept_same _, c.requires.recalls, at_first m (g.Q.Problem.relation x.on.now.problem.now) (x.self.now.facts) x.returned x.exit (inner x.self.now) c.first_caller-next.result from)
 
 pub returns-in_default-statement : goal.returns-in_default-statement
 returns-in_default-statement g c =
@@ -34,8 +34,8 @@ returns-in_default-statement g c =
     let F = x.self.now.facts in
     let start = inner x.self.now in
     let at = c.in-Some-next.at in
-    let here = subst (λ (o : Option Point). Progress m Q F x.returned x.exit start o (inner c.loop-next.self)) c.in-Some-next.is c.loop-next.invariant.1 in
-    absurd (no_statement m Q F x.returned x.exit start at c.in_default-statement.ensures here.1)
+    let here = subst (λ (o : Option Point). Progress m Q F x.returned x.exit start o (inner c.loop-next.self)) c.in-Some-next.is c.loop-next.invariant.2 in
+    absurd (no_statement m Q F x.returned x.exit start at c.in_default-statement.ensures.value here.1)
 
 pub answer_call-requires : goal.answer_call-requires
 answer_call-requires g c =
@@ -45,9 +45,9 @@ answer_call-requires g c =
     let F = x.self.now.facts in
     let start = inner x.self.now in
     let at = c.in-Some-next.at in
-    let here = subst (λ (o : Option Point). Progress m Q F x.returned x.exit start o (inner c.loop-next.self)) c.in-Some-next.is c.loop-next.invariant.1 in
+    let here = subst (λ (o : Option Point). Progress m Q F x.returned x.exit start o (inner c.loop-next.self)) c.in-Some-next.is c.loop-next.invariant.2 in
     let k = c.loop-next.invariant.0 in
-    let next = after_call m Q F x.returned x.exit start (g.P.Program.lawful x.on.now.program.now) at c.in-Some-statement.statement c.in-Some-statement.ensures here.1 in
+    let next = after_call m Q F x.returned x.exit start (g.P.Program.lawful x.on.now.program.now) at c.in-Some-statement.statement c.in-Some-statement.ensures.value here.1 in
     record { exit = stands_still _ _ _ k c.requires.stands; next = omega (arith, k.points, c.requires.points) }
 
 pub loop-next-preserved : goal.loop-next-preserved
@@ -58,12 +58,13 @@ loop-next-preserved g c =
     let F = x.self.now.facts in
     let start = inner x.self.now in
     let at = c.in-Some-next.at in
-    let here = subst (λ (o : Option Point). Progress m Q F x.returned x.exit start o (inner c.loop-next.self)) c.in-Some-next.is c.loop-next.invariant.1 in
+    let here = subst (λ (o : Option Point). Progress m Q F x.returned x.exit start o (inner c.loop-next.self)) c.in-Some-next.is c.loop-next.invariant.2 in
     let k = c.loop-next.invariant.0 in
     let site : ReturnSite = record { exit = x.exit; caller = record { at = at; statement = c.in-Some-statement.statement; result = x.returned } } in
     let after = alike (λ (F : ℕ). answers Q F site) F c.loop-next.self.facts (inner c.loop-next.self) (inner c.answer_call.new.self) k.facts c.answer_call.ensures.after in (
       kept_then _ _ _ c.loop-next.invariant.0 c.answer_call.ensures.kept,
-      at_next m Q F x.returned x.exit start at c.in-Some-statement.statement c.in-Some-statement.ensures here.1
+      c.in-Some-statement.ensures.recalls,
+      at_next m Q F x.returned x.exit start at c.in-Some-statement.statement c.in-Some-statement.ensures.value here.1
           (inner c.loop-next.self) (inner c.answer_call.new.self) here.0 c.requires.stands.number after c.next_caller-next.result c.next_caller-next.ensures,
     )
 
@@ -75,8 +76,8 @@ loop-next-smaller g c =
     let F = x.self.now.facts in
     let start = inner x.self.now in
     let at = c.in-Some-next.at in
-    let here = subst (λ (o : Option Point). Progress m Q F x.returned x.exit start o (inner c.loop-next.self)) c.in-Some-next.is c.loop-next.invariant.1 in
-    let f = fewer m Q F x.returned x.exit start at c.in-Some-statement.statement c.in-Some-statement.ensures here.1 c.next_caller-next.result c.next_caller-next.ensures in
+    let here = subst (λ (o : Option Point). Progress m Q F x.returned x.exit start o (inner c.loop-next.self)) c.in-Some-next.is c.loop-next.invariant.2 in
+    let f = fewer m Q F x.returned x.exit start at c.in-Some-statement.statement c.in-Some-statement.ensures.value here.1 c.next_caller-next.result c.next_caller-next.ensures in
     subst (λ (o : Option Point). left (size m) c.next_caller-next.result < left (size m) o) (sym c.in-Some-next.is) f
 
 pub returns : goal.returns
@@ -84,5 +85,6 @@ returns g c =
     let x = c.args in
     record {
       kept = c.loop-next.invariant.0;
-      after = subst (λ (o : Option Point). Progress (g.P.Program.meaning x.on.now.program.now) (g.Q.Problem.relation x.on.now.problem.now) (x.self.now.facts) x.returned x.exit (inner x.self.now) o (inner c.loop-next.self)) c.in_default-next.is c.loop-next.invariant.1;
+      recalls = c.loop-next.invariant.1;
+      after = subst (λ (o : Option Point). Progress (g.P.Program.meaning x.on.now.program.now) (g.Q.Problem.relation x.on.now.problem.now) (x.self.now.facts) x.returned x.exit (inner x.self.now) o (inner c.loop-next.self)) c.in_default-next.is c.loop-next.invariant.2;
     }

@@ -16,6 +16,7 @@ loop-done-init g c =
       refl,
       refl,
       refl,
+      c.none-seen.ensures (g.P.Program.meaning c.args.on.now.program.now),
     )
 
 pub settle-requires : goal.settle-requires
@@ -23,6 +24,7 @@ settle-requires g c =
     let inv = c.loop-done.invariant in
     let v = c.take.ensures.moved in
     record {
+      recalls = inv.5;
       serves = record { points = v.points ∙ inv.2 ∙ c.requires.points; facts = v.facts ∙ inv.3 ∙ c.requires.facts };
       found = found_moved _ _ _ v c.in-Some.ensures.found;
     }
@@ -43,6 +45,7 @@ loop-done-preserved g c =
       kept.points ∙ v.points ∙ inv.2,
       kept.facts ∙ v.facts ∙ inv.3,
       kept.spare ∙ spare_moved _ _ v ∙ inv.4,
+      c.settle.ensures.recalls,
     )
 
 pub returns-in_default : goal.returns-in_default

@@ -1,6 +1,7 @@
 use Rattle.std.proofs.Common.{◌≡◌, ◌+◌, ◌-◌}
 use Rattle.paths.specs.Handing.{handed_by}
 use Rattle.paths.specs.Tabled.{work}
+use Rattle.table.specs.Seen.{Recalls}
 use Rattle.table.specs.State.{inner, spare}
 use Rattle.table.proofs.state.Core.settle_some.Given as goal
 
@@ -13,3 +14,4 @@ invariant-loop-done g l =
     × (l.self.points ≡ l.initial.self.points)
     × (l.self.facts ≡ l.initial.self.facts)
     × (spare l.self ≡ spare l.initial.self)
+    × Recalls (g.P.Program.meaning l.on.program.now) l.seen

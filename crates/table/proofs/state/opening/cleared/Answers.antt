@@ -10,7 +10,8 @@ use Rattle.paths.specs.Does.{Handed}
 use Rattle.paths.specs.Handing.{handed_by}
 use Rattle.records.specs.Blank.{blank}
 use Rattle.records.specs.declared.record.Record.{Record}
-use Rattle.table.proofs.Opens.{opened_sound, some_cells, size_of, new_state, new_memory, newly}
+use Rattle.table.proofs.Opens.{opened_sound, opened_blocks, some_cells, size_of, new_state, new_memory, newly}
+use Rattle.table.proofs.Blocks.{Blocks}
 use Rattle.table.proofs.Sounds.{Sound}
 use Rattle.table.specs.State.{state_of}
 use Rattle.table.specs.Told.{Memory}
@@ -54,6 +55,7 @@ invariant_of-result g c =
       first_before = s.first_before;
       second_found = s.second_found;
       second_before = s.second_before;
+      blocks = subst (λ (ys : List Record). Blocks ys n f) (sym made) (opened_blocks rs k held n f cells s.some);
       ordered = s.ordered;
       pushed = s.pushed;
       slots = s.slots;
