@@ -3,11 +3,18 @@
 // the end of the row from which cells are taken, `oldest` or `newest`.
 #![tactic(auto)]
 
+ghost use Rattle.std.specs.Prelude.{IfSome, OnOk};
+ghost use Rattle.std.specs.Io.KnownBytes.{Appends};
+ghost use Rattle.progress.specs.Listed.{told_of};
+
+use anyhow::Context;
 use flow::choice::Choice;
 use paths::worklist::End;
 use progress::portion::{Pace, Portion};
 use progress::told::{Tabulation, tabulate_listing};
+use std::alloc::{AllocError, Global};
 use std::env;
+use std::io::{Read, Write};
 use text::input::take_listing;
 
 fn portion_of(word: &str) -> Option<Portion> {
@@ -15,36 +22,78 @@ fn portion_of(word: &str) -> Option<Portion> {
 }
 
 // What the arguments ask for, or what is wrong with them.
-fn asked(args: env::Args) -> Result<Tabulation, &'static str> {
-    let mut words = args.skip(1);
+fn asked(words: &[String]) -> anyhow::Result<Tabulation> {
+    let mut words = words.iter();
     let choice = words
         .next()
         .and_then(|word| word.as_str().parse().ok())
-        .ok_or("the first argument is the problem, unset or raw")?;
+        .context("the first argument is the problem, unset or raw")?;
     let portion = words
         .next()
         .and_then(|word| portion_of(word.as_str()))
-        .ok_or("the second argument is the number of cells in a portion, 1 or more")?;
+        .context("the second argument is the number of cells in a portion, 1 or more")?;
     let from = match (words.next(), words.next()) {
         (None, _) => Some(End::Oldest),
         (Some(word), None) => word.as_str().parse().ok(),
         _ => None,
     };
-    let from = from.ok_or("the third argument, if any, is oldest or newest; there is no fourth")?;
+    let from = from.context("the third argument, if any, is oldest or newest; there is no fourth")?;
     Ok(Tabulation {
         choice,
         pace: Pace { portion, from },
     })
 }
 
-fn main(rt: HostRuntime) -> anyhow::Result<()> {
-    let bytes = take_listing(rt.alloc(), rt.stdin())?;
-    match asked(env::args(&rt)?) {
-        Ok(tabulation) => {
-            let told = tabulate_listing(rt.alloc(), bytes.as_slice(), tabulation)?;
-            print!(rt; "{told}")?;
-        }
-        Err(wrong) => println!(rt; "{wrong}")?,
-    }
+// Writes what is told of the tabulation of the listing that a reader gives.
+fn run<I: Read + Drop, O: Write>(
+    heap: Global,
+    input: I,
+    output: &mut O,
+    tabulation: Tabulation,
+) -> anyhow::Result<()>
+    ensures { OnOk result (IfSome (I.remaining input) (λ t. Appends (O.contents output.old) (O.contents output.new)
+        (told_of t tabulation.choice tabulation.pace.portion.size tabulation.pace.from))) }
+{
+    let bytes = take_listing(heap, input)?;
+    let told = tabulate_listing(heap, bytes.as_slice(), tabulation)?;
+    output.write_all(told.as_bytes())?;
     Ok(())
+}
+
+fn main(rt: HostRuntime) -> anyhow::Result<()> {
+    let words: Vec<String> = env::args(&rt)?.skip(1).collect(rt.alloc())?;
+    let tabulation = asked(words.as_slice())?;
+    run(rt.alloc(), rt.stdin(), &mut rt.stdout(), tabulation)
+}
+
+#[cfg(test)]
+mod tests {
+    use super::*;
+    use std::test::Fail;
+
+    fn words_of(heap: Global, words: &[&str]) -> Result<Vec<String>, AllocError> {
+        let mut all = Vec::new(heap);
+        for word in words {
+            all.push(String::from_str(heap, word)?)?;
+        }
+        Ok(all)
+    }
+
+    // Arguments that are wrong.
+    #[test]
+    fn wrong_arguments(rt: HostRuntime) -> Result<(), Fail> {
+        let wrong: [&[&str]; 6] = [
+            &[],
+            &["Unset", "1"],
+            &["unset"],
+            &["unset", "0"],
+            &["unset", "1", "eldest"],
+            &["unset", "1", "oldest", "oldest"],
+        ];
+        for words in wrong {
+            let words = words_of(rt.alloc(), words)?;
+            assert!(rt; asked(words.as_slice()).is_err());
+        }
+        Ok(())
+    }
 }
