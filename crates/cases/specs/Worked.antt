@@ -2,7 +2,7 @@
 use Rattle.std.specs.Prelude.{◌≡◌, ℕ, ◌*◌, ◌-◌, ◌↔◌, List, [], ◌∷◌, ◌++◌, map, length, take, replicate, Some, None, Ok, Err, codes, Option, Result}
 use Rattle.std.specs.List.{flat_map}
 use mathlib.Core.List.{Memᴰ}
-use Rattle.listing.specs.Meaning.{Meaning, point, proc}
+use Rattle.listing.specs.Meaning.{Meaning, totals, point, proc}
 use Rattle.listing.specs.declared.counts.Counts.{Counts}
 use Rattle.listing.specs.declared.numbers.Cell.{Cell}
 use Rattle.listing.specs.declared.statement.Statement.{Statement}
@@ -12,7 +12,7 @@ use Rattle.draft.specs.declared.question.Question.{Question}
 use Rattle.draft.specs.declared.question.Question.TheVariants.{Size, Form, Ranges, Jumps}
 use Rattle.draft.specs.declared.question.Refusal.{Refusal}
 use Rattle.text.specs.Cases.{listed}
-use Rattle.text.specs.Reading.{meaning_of, reading}
+use Rattle.text.specs.Reading.{meaning_of, reading, refused, answered}
 use Rattle.flow.specs.Choices.{starts_of}
 use Rattle.flow.specs.declared.choice.Choice.{Choice}
 use Rattle.flow.specs.declared.choice.Choice.TheVariants.{Unset, Raw}
@@ -48,11 +48,12 @@ listing_c = listed (codes "cells 1 1" ∷ codes "add l0 g0 l0" ∷ codes "ret l0
 abbrev pub cut : List ℕ → List ℕ
 cut t = take (length t - 1) t
 
--- the number and the place of the question that a text is refused for
+-- what a reading is refused for: the number of the question, and the place
 abbrev pub no_by : Result Meaning Refusal → Option (ℕ × ℕ)
 no_by (Ok m) = None
 no_by (Err r) = Some (number_of r.question, r.place)
 
+-- what a text is refused for
 abbrev pub text_no : List ℕ → Option (ℕ × ℕ)
 text_no t = no_by (reading t)
 
@@ -106,10 +107,11 @@ Reaches choice t n d = Reached (handed_of choice t) (latest_first (defaults choi
 abbrev pub ListsReached : Choice → List ℕ → Type 0
 ListsReached choice t = (n d : ℕ) → Memᴰ (n, d) (pairs_of (table choice t)) ↔ Reaches choice t n d
 
--- a point with some facts, as pairs, and several points
+-- the pairs of a point with some facts
 abbrev pub row : ℕ × List ℕ → List (ℕ × ℕ)
 row x = map (λ d. (x.0, d)) x.1
 
+-- the pairs of several points, each with its facts
 abbrev pub rows : List (ℕ × List ℕ) → List (ℕ × ℕ)
 rows xs = flat_map row xs
 
@@ -193,11 +195,27 @@ pub record Worked : Type 0 where
 
 -- THE READER
 
+-- the reader accepts, and tells how many globals, locals, statements and procedures there are
 abbrev pub counts : ℕ → ℕ → ℕ → ℕ → Result Counts Refusal
 counts g l n p = Ok (record { globals = g; locals = l; points = n; procedures = p })
 
+-- the reader refuses for a question, at a place
 abbrev pub refusal : Question → ℕ → Result Counts Refusal
 refusal q j = Err (record { question = q; place = j })
+
+-- the first six texts
+abbrev pub first_six : List (List ℕ)
+first_six =
+    [] ∷ listed (codes "cells 0 1" ∷ codes "ret l0" ∷ [])
+    ∷ listed (codes "cells 0 0" ∷ codes "ret l0" ∷ [])
+    ∷ cut listing_c
+    ∷ listed (codes "cells 0 1" ∷ codes "goto 1" ∷ codes "ret l0" ∷ codes "ret l0" ∷ [])
+    ∷ listed (codes "cells 0 1" ∷ codes "goto 2" ∷ codes "ret l0" ∷ codes "ret l0" ∷ [])
+    ∷ []
+
+-- what the reader answers to a text
+abbrev pub answer_to : List ℕ → Result Counts Refusal
+answer_to t = answered (refused t) (totals (meaning_of t))
 
 -- what the reader answers to the first six texts
 abbrev pub told : List (Result Counts Refusal)

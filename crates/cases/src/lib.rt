@@ -1,10 +1,8 @@
 // Worked cases, computed from the definitions that the contracts cite.
 #![tactic(auto)]
 
-ghost use Rattle.std.specs.Prelude.{◌≡◌};
-ghost use Rattle.listing.specs.Meaning.{totals};
-ghost use Rattle.text.specs.Reading.{meaning_of, refused, answered};
-ghost use Rattle.cases.specs.Worked.{Worked, told};
+ghost use Rattle.std.specs.Prelude.{◌≡◌, map};
+ghost use Rattle.cases.specs.Worked.{Worked, answer_to, first_six, told};
 
 use draft::question::Refusal;
 use listing::counts::Counts;
@@ -12,7 +10,7 @@ use text::text::Text;
 
 // What the reader answers of a listing.
 fn answer(bytes: &[u8]) -> Result<Counts, Refusal>
-    ensures { result ≡ answered (refused bytes.now) (totals (meaning_of bytes.now)) }
+    ensures { result ≡ answer_to bytes.now }
 {
     let mut text = Text::shortest();
     text.read(bytes)
@@ -20,7 +18,8 @@ fn answer(bytes: &[u8]) -> Result<Counts, Refusal>
 
 // The reader's answers to six listings.
 pub fn readings() -> [Result<Counts, Refusal>; 6]
-    ensures { result ≡ told }
+    ensures of { result ≡ map answer_to first_six }
+    ensures told { result ≡ told }
 {
     [
         answer(b""),

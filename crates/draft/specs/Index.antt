@@ -31,7 +31,7 @@ called (Some (Test k)) = None
 called (Some (Call p)) = Some p
 called (Some Ret) = None
 
--- control, where a call of none of the 60 procedures that a program may have counts as no call
+-- control as an index of calls sees it: a call of none of the 60 procedures that a program may have counts as no call
 abbrev pub bounded_call : Control → Control
 bounded_call Next = Next
 bounded_call (Goto k) = Goto k
@@ -39,5 +39,6 @@ bounded_call (Test k) = Test k
 bounded_call (Call p) = cond (nat_lt p.0 60) (Call p) Next
 bounded_call Ret = Ret
 
+-- a flow of control as an index of calls sees it
 abbrev pub bounded_calls : List Control → List Control
 bounded_calls cs = map bounded_call cs

@@ -5,6 +5,7 @@ use Rattle.draft.specs.declared.question.Question.{Question}
 use Rattle.draft.specs.declared.question.Refusal.{Refusal}
 use Rattle.draft.specs.declared.question.Question.TheVariants.{Size, Form, Ranges, Length, End, Procedures, Cells, Jumps, Callees}
 
+-- the number of a question, which a refusal tells
 abbrev pub number_of : Question → ℕ
 number_of Size = 1
 number_of Form = 2

@@ -24,7 +24,7 @@ Judges answers cs rule = (n : Point) (c : Control) (kept : Bool) → slice_get c
 abbrev pub unless : Bool → ℕ → Option ℕ
 unless passed k = cond passed None (Some k)
 
--- the first point at which a question about statements has its no: the last, where that is no `ret`
+-- the last point, where its statement is no `ret`
 unfoldable pub unended : List Control → Option ℕ
 unended cs = unless (ends_in_ret cs) (length cs - 1)
 

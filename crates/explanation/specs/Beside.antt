@@ -13,6 +13,7 @@ use Rattle.text.specs.Reading.{reading}
 abbrev pub Lined : List (List ℕ) → Meaning → Type 0
 Lined ls m = (n : ℕ) (s : Statement Cell) → slice_get m.statements n ≡ Some s → slice_get ls (n + 1) ≡ Some (statement_spelt m.globals s ++ (10 ∷ []))
 
+-- where a listing is read, its statements are lines of it so; nothing of a refused one
 abbrev pub LinedBy : List (List ℕ) → Result Meaning Refusal → Type 0
 LinedBy ls (Ok m) = Lined ls m
 LinedBy ls (Err r) = Unit {0}

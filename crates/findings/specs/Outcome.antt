@@ -44,6 +44,7 @@ pub record Settled (h : Handed) (starts : List Start) (memory : List Rec) (t : T
   pub state_is : t ≡ settled h starts memory
   pub led : Led h (accepted h starts memory) (Closed t)
 
+-- a table was made and settled so; or the memory has too few records
 abbrev pub Settles : Handed → List Start → told.Memory → Result ClosedTable Fault → Type 0
 Settles h starts memory (Ok t) = Settled h starts (map rec (vec_items memory)) (state t)
 Settles h starts memory (Err f) = (room_for h (map rec (vec_items memory)) ≡ false) × (f ≡ Memory)

@@ -39,6 +39,7 @@ pub record Late (f : Fault) (r : Report) (page : List ℕ) : Type 0 where
   pub next : drop r.lines (pairs_of r.table) ≡ pair ∷ others
   pub full : length page < r.place + length (line_text pair)
 
+-- every pair has its line on the page; or lines were written until one does not fit
 abbrev pub Lines : Handed → List (ℕ × ℕ) → Report → List ℕ → Result (Unit {0}) Fault → Report → List ℕ → Type 0
 Lines h starts r page (Ok u) r' page' = Lined h starts r page r' page' × (r'.lines ≡ length (pairs_of r'.table))
 Lines h starts r page (Err f) r' page' = Lined h starts r page r' page' × Late f r' page'

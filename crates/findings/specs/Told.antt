@@ -35,6 +35,7 @@ bytes_of (Err f) = Err f
 pub record Tells (h : Handed) (starts : List Start) (room : Room) : Type 0 where
   pub exact : (report : List ℕ) → reported h starts room ≡ Ok report → Reported h (accepted h starts (replicate room.records blank)) report
 
+-- the report, or why there is none, is the one that the definitions give, and tells what is reached and no more
 pub record Written (h : Handed) (starts : List Start) (room : Room) (o : Result (List ℕ) Fault) : Type 0 where
   pub report_is : o ≡ reported h starts room
   pub tells : Tells h starts room

@@ -35,7 +35,7 @@ pub fn settle_all<P: Program, Q: Problem>(
 }
 
 // Writes the report of the default starts on a page, and gives the place after it; or why there is none.
-pub fn fill<P: Program, Q: Problem>(
+pub(crate) fn fill<P: Program, Q: Problem>(
     memory: Vec<Record>,
     on: &Analysis<P, Q>,
     page: &mut [u8],

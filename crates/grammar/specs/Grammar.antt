@@ -15,54 +15,64 @@ use Rattle.grammar.specs.Words.{words, number, name}
 abbrev pub body : List ℕ → Option (List ℕ)
 body line = cond (nat_le 1 (length line) && slice_index line (length line - 1) == 10) (Some (take (length line - 1) line)) None
 
+-- what comes next of a value, where there is one
 abbrev pub then : {A B : Type 0} → Option A → (A → Option B) → Option B
 then None f = None
 then (Some a) f = f a
 
+-- both values, where both are there
 abbrev pub pair : {A B : Type 0} → Option A → Option B → Option (A × B)
 pair None y = None
 pair (Some a) y = option_map (λ b. (a, b)) y
 
--- the operands: just one that `read` takes
+-- one operand and no more, as `read` takes it
 abbrev pub last : {A : Type 0} → (List ℕ → Option A) → List (List ℕ) → Option A
 last read [] = None
 last read (w ∷ []) = read w
 last read (w ∷ x ∷ ws) = None
 
--- one that `read` takes, and then those that `rest` takes
+-- one operand, as `read` takes it, and then those after it, as `rest` takes them
 abbrev pub next : {A B : Type 0} → (List ℕ → Option A) → (List (List ℕ) → Option B) → List (List ℕ) → Option (A × B)
 next read rest [] = None
 next read rest (w ∷ ws) = pair (read w) (rest ws)
 
--- three in a row
+-- three operands in a row
 abbrev pub flat : {A B C : Type 0} → A × (B × C) → A × B × C
 flat p = (p.0, p.1.0, p.1.1)
 
+-- one operand, a cell
 abbrev pub one : List (List ℕ) → Option Name
 one = last name
 
+-- two cells
 abbrev pub two : List (List ℕ) → Option (Name × Name)
 two = next name one
 
+-- three cells
 abbrev pub three : List (List ℕ) → Option (Name × (Name × Name))
 three = next name two
 
+-- a point, as `goto K` has it; or the second number of line 1
 abbrev pub target : List (List ℕ) → Option ℕ
 target = last number
 
+-- a cell and a point, as `test S K` has them
 abbrev pub branch : List (List ℕ) → Option (Name × ℕ)
 branch = next name target
 
+-- a procedure and a cell, the last two of `call D P S`
 abbrev pub argument : List (List ℕ) → Option (ℕ × Name)
 argument = next number one
 
+-- a cell, a procedure and a cell, as `call D P S` has them
 abbrev pub called : List (List ℕ) → Option (Name × (ℕ × Name))
 called = next name argument
 
+-- the two numbers of line 1
 abbrev pub counts : List (List ℕ) → Option (ℕ × ℕ)
 counts = next number target
 
--- the names of the statements
+-- the statement that a word names
 abbrev pub named : List ℕ → Option Op
 named w =
     cond (bytes_eq w (codes "set")) (Some op.Set)
@@ -77,7 +87,8 @@ named w =
     (cond (bytes_eq w (codes "trim")) (Some op.Trim)
     None)))))))))
 
--- `set D`, `move D S`, `add D S T`, `read D`, `send S`, `goto K`, `test S K`, `call D P S`, `ret S`, `trim D S`
+-- the statement with its operands: `set D`, `move D S`, `add D S T`, `read D`, `send S`, `goto K`, `test S K`, `call D P S`, `ret S`,
+-- `trim D S`
 abbrev pub operands : Op → List (List ℕ) → Option (Statement Name)
 operands op.Set ws = option_map Set (one ws)
 operands op.Move ws = option_map (λ p. Move p.0 p.1) (two ws)

@@ -6,19 +6,22 @@ use Rattle.grammar.specs.declared.name.Name.{Name}
 use Rattle.grammar.specs.declared.name.Name.TheVariants.{Global, Local}
 use Rattle.grammar.specs.declared.name.Header.{Header}
 
--- words with one space (32) between, and LF (10) at the end
+-- words with one space (32) between
 abbrev pub spaced : List (List ℕ) → List ℕ
 spaced [] = []
 spaced (w ∷ []) = w
 spaced (w ∷ v ∷ ws) = w ++ (32 ∷ spaced (v ∷ ws))
 
+-- a line: its words, one space between, and LF (10)
 abbrev pub line_of : List (List ℕ) → List ℕ
 line_of ws = spaced ws ++ (10 ∷ [])
 
+-- a cell as it is written: `g` (103) or `l` (108), and its number
 abbrev pub name_spelt : Name → List ℕ
 name_spelt (Global i) = 103 ∷ decimal i
 name_spelt (Local i) = 108 ∷ decimal i
 
+-- the words of a statement
 abbrev pub words_of : Statement Name → List (List ℕ)
 words_of (Set d) = codes "set" ∷ name_spelt d ∷ []
 words_of (Move d s) = codes "move" ∷ name_spelt d ∷ name_spelt s ∷ []
@@ -31,14 +34,16 @@ words_of (Call d p s) = codes "call" ∷ name_spelt d ∷ decimal p.0 ∷ name_s
 words_of (Ret s) = codes "ret" ∷ name_spelt s ∷ []
 words_of (Trim d s) = codes "trim" ∷ name_spelt d ∷ name_spelt s ∷ []
 
+-- the words of line 1, `cells G L`
 abbrev pub header_words : Header → List (List ℕ)
 header_words h = codes "cells" ∷ decimal h.globals ∷ decimal h.locals ∷ []
 
--- the numbers have at most four digits
+-- the number of a name has at most four digits
 abbrev pub SmallName : Name → Type 0
 SmallName (Global i) = i < 10000
 SmallName (Local i) = i < 10000
 
+-- each number of a statement has at most four digits
 abbrev pub Small : Statement Name → Type 0
 Small (Set d) = SmallName d
 Small (Move d s) = SmallName d × SmallName s
@@ -51,6 +56,7 @@ Small (Call d p s) = SmallName d × ((p.0 < 10000) × SmallName s)
 Small (Ret s) = SmallName s
 Small (Trim d s) = SmallName d × SmallName s
 
+-- both numbers of line 1 have at most four digits
 abbrev pub SmallHeader : Header → Type 0
 SmallHeader h = (h.globals < 10000) × (h.locals < 10000)
 
@@ -63,6 +69,6 @@ pub record ReadAs {A : Type 0} (spelt : A → List ℕ) (Fit : A → Type 0) (li
 abbrev pub StatementSpelt : List ℕ → Option (Statement Name) → Type 0
 StatementSpelt = ReadAs (λ s. line_of (words_of s)) Small
 
--- and as the first line just where it is its spelling
+-- a line is read as line 1 just where it is its spelling
 abbrev pub HeaderSpelt : List ℕ → Option Header → Type 0
 HeaderSpelt = ReadAs (λ h. line_of (header_words h)) SmallHeader

@@ -24,6 +24,7 @@ value_on n (c ∷ cs) = cond (is_ascii_digit c) (value_on (10 * n + (c - 48)) cs
 abbrev pub short : List ℕ → Bool
 short w = nat_le 1 (length w) && (nat_le (length w) 4 && (not (slice_index w 0 == 48) || length w == 1))
 
+-- a decimal number of one to four digits, with no leading zero but in `0`
 abbrev pub number : List ℕ → Option ℕ
 number w = cond (short w) (value_on 0 w) None
 

@@ -17,12 +17,13 @@ rets (c ∷ cs) = bump (is_ret c) (rets cs)
 abbrev pub procedure : List Control → ℕ → ℕ
 procedure cs n = rets (take n cs)
 
--- the point of the `ret` of procedure p
+-- the exit of procedure p with one more statement in front, a `ret` or not; `rest` tells the exits behind it
 abbrev pub exit_by : Bool → (ℕ → ℕ) → ℕ → ℕ
 exit_by true rest zero = 0
 exit_by true rest (suc p) = suc (rest p)
 exit_by false rest p = suc (rest p)
 
+-- the exit of procedure p: the point of its `ret`
 abbrev pub exit : List Control → ℕ → ℕ
 exit [] p = 0
 exit (c ∷ cs) p = exit_by (is_ret c) (exit cs) p

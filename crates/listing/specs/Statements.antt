@@ -5,6 +5,7 @@ use Rattle.listing.specs.declared.control.Control.TheVariants as control
 use Rattle.listing.specs.declared.statement.Statement.{Statement}
 use Rattle.listing.specs.declared.statement.Statement.TheVariants.{Set, Move, Add, Read, Send, Goto, Test, Call, Ret, Trim}
 
+-- what a statement does to control
 abbrev pub controlled : {C : Type 0} → Statement C → Control
 controlled (Set d) = control.Next
 controlled (Move d s) = control.Next

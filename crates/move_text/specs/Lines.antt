@@ -7,6 +7,7 @@ use Rattle.moves.specs.declared.moves.Move.{Move}
 pub use Rattle.moves.specs.Names.{kind_text}
 use Rattle.move_text.specs.declared.MoveLine.{MoveLine}
 
+-- what a fact stands for, in words: `zero`, or `cell C`
 abbrev pub item_text : Option Cell → List ℕ
 item_text None = codes "zero"
 item_text (Some c) = codes "cell " ++ decimal c.0

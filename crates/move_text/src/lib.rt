@@ -1,7 +1,7 @@
 // One move in words.
 #![tactic(auto)]
 
-ghost use Rattle.std.specs.Prelude.{◌≡◌, ◌+◌, ◌^◌, ◌<◌, Some};
+ghost use Rattle.std.specs.Prelude.{◌≡◌, ◌-◌, ◌^◌, min, Some};
 ghost use Rattle.move_text.specs.Lines.{item_text, line_text, opened};
 
 use listing::numbers::Cell;
@@ -48,7 +48,7 @@ impl fmt::Display for MoveLine {
 
 // How many calls are open after a move. A count at its end stays there: no memory holds so many moves.
 pub fn open_after(height: usize, kind: Kind) -> usize
-    ensures { height + 1 < 2 ^ 64 → result ≡ opened height kind }
+    ensures { result ≡ min (opened height kind) (2 ^ 64 - 1) }
 {
     match kind {
         Kind::Call => height.saturating_add(1),

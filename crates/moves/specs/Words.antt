@@ -9,6 +9,7 @@ use Rattle.moves.specs.declared.moves.Kind.TheVariants.{Start, Step, Past, Call,
 use Rattle.moves.specs.declared.moves.Move.{Move}
 use Rattle.moves.specs.declared.words.NotAMove.{NotAMove}
 
+-- the number of a kind
 abbrev pub code : Kind → ℕ
 code Start = 1
 code Step = 2
@@ -16,9 +17,11 @@ code Past = 3
 code Call = 4
 code Return = 5
 
+-- the kind that has a number, if one has
 abbrev pub kind_of : ℕ → Option Kind
 kind_of k = cond (k == 1) (Some Start) (cond (k == 2) (Some Step) (cond (k == 3) (Some Past) (cond (k == 4) (Some Call) (cond (k == 5) (Some Return) None))))
 
+-- the fact with a number
 abbrev pub fact : ℕ → Fact
 fact d = record { 0 = d }
 
@@ -30,6 +33,7 @@ arrives k n d = record { kind = k; point = point n; fact = fact d }
 abbrev pub fits : Move → Bool
 fits m = nat_lt m.point.0 1024 && nat_lt m.fact.0 64
 
+-- the word of a move
 abbrev pub encoded : Move → ℕ
 encoded m = ((code m.kind * 1024 + m.point.0) * 64 + m.fact.0) * 8192
 

@@ -64,12 +64,14 @@ heading_text c =
     ++ (codes " statements " ++ (decimal c.points
     ++ (codes " procedures " ++ decimal c.procedures))))))
 
+-- the outline of a program
 abbrev pub described : Meaning → List ℕ
 described m = (heading_text (totals m) ++ (10 ∷ [])) ++ sections m (procs m)
 
--- a refused listing gives `refused k at j` alone
+-- the outline where a listing is read; a refused one gives `refused k at j` alone
 abbrev pub told : Result Meaning Refusal → List ℕ
 told o = told_by described o
 
+-- the outline of a listing, by its bytes
 abbrev pub outlined : List ℕ → List ℕ
 outlined t = told (reading t)

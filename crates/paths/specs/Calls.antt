@@ -50,7 +50,7 @@ least zero n d st = None
 least (suc k) n d st = later (is_found (cell n k d) st) k (least k n d st)
 
 module _ (P : Supergraph) (Q : Rule) (N K F : ℕ) where
-  -- what a call makes of the table in each mode; one that is refused, or is not put to that mode, leaves all as it is
+  -- what a call makes of an open table; one that is refused, or is not put to it, leaves all as it is
   abbrev pub on_open : Asks → Whole → Whole
   on_open (Sow p d) w = cond (both (nat_lt p K) (nat_lt d F)) (record { mode = Open; state = sow P Q N F p d w.state; starts = (p, d) ∷ w.starts }) w
   on_open (Work k end) w = record { mode = Open; state = work P Q N F k end w.state; starts = w.starts }
@@ -62,6 +62,7 @@ module _ (P : Supergraph) (Q : Rule) (N K F : ℕ) where
   on_open (Foot fits) w = w
   on_open (Trail n d) w = w
 
+  -- the same of a closed table
   abbrev pub on_closed : Asks → Whole → Whole
   on_closed (Sow p d) w = w
   on_closed (Work k end) w = w
@@ -73,6 +74,7 @@ module _ (P : Supergraph) (Q : Rule) (N K F : ℕ) where
   on_closed (Foot fits) w = w
   on_closed (Trail n d) w = w
 
+  -- the same of a table with a report begun, of which i lines are written
   abbrev pub on_report : ℕ → Asks → Whole → Whole
   on_report i (Sow p d) w = w
   on_report i (Work k end) w = w
@@ -104,7 +106,7 @@ module _ (P : Supergraph) (Q : Rule) (N K F : ℕ) where
   Led None w n d = ReachedPair P Q (Accepted w.starts) n d → ⊥
   Led (Some a) w n d = PathTo P Q (Accepted w.starts) (trail P w.state.table (cell n a d)) n d
 
--- what holds then
+-- what holds after calls that led to w
 pub record Kept (P : Supergraph) (Q : Rule) (N K F : ℕ) (w : Whole) : Type 0 where
   pub after : After P Q N F w.mode w.state w.starts
   pub trail_to : w.mode ≡ Closed → (n d : ℕ) → Led P Q N K F (least F n d w.state) w n d

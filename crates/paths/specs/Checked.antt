@@ -23,11 +23,12 @@ at_18 None = None
 at_18 (Some j) = Some (18, j)
 
 module _ (H : Handed) where
-  -- where a word leads from a spot, if it is a move's word and the move is lawful there
+  -- where the move of a word leads from a spot, if there is one and it is lawful there
   abbrev pub lead_by : Spot → Option Move → Option Spot
   lead_by z None = None
   lead_by z (Some w) = move H.graph H.rule H.points H.facts z w
 
+  -- where a word leads from a spot, if anywhere
   abbrev pub lead : Spot → ℕ → Option Spot
   lead z x = lead_by z (decode x)
 

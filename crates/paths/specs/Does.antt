@@ -53,12 +53,12 @@ sow_no h p d t = cond (counts_fit h t) (cond (both (nat_lt p h.procs) (nat_lt d 
 abbrev pub work_no : Handed → Tabled → Option ℕ
 work_no h t = cond (counts_fit h t) None (Some 12)
 
--- what is answered and left where a question is answered no, and else
+-- the answer: the number of a no, or what is given where there is none
 abbrev pub answer_by : Option ℕ → ℕ → Answer
 answer_by None k = gives k
 answer_by (Some q) k = refuses q
 
--- the table that is left
+-- the table that is left: as it was where there is a no
 abbrev pub left_by : Option ℕ → Tabled → Tabled → Tabled
 left_by None before after = after
 left_by (Some q) before after = before
@@ -208,6 +208,7 @@ One H h = h.points ≡ H.points → h.facts ≡ H.facts → h ≡ H
 abbrev pub room_for : Handed → List Rec → Bool
 room_for h memory = nat_le (h.points * h.facts * h.facts) (length memory)
 
+-- what open answers to a memory
 abbrev pub open_answer : Handed → List Rec → Answer
 open_answer h memory = cond (nat_le (h.points * h.facts * h.facts) (length memory)) (gives 0) (refuses 11)
 

@@ -26,5 +26,6 @@ pub record Exactly (H : Handed) (starts : List (ℕ × ℕ)) (t : Tabled) : Type
 abbrev pub ExactFrom : Handed → Tabled → Type 0
 ExactFrom H first = (calls : List Call) (t : Tabled) → Row H first calls (Closed t) → Exactly H (accepted calls) t
 
+-- this holds of every newly opened table, for every lawful program and every relation of its facts
 abbrev pub ExactRows : Type 0
 ExactRows = (H : Handed) → Sound H → (first : Tabled) → Newly H first → ExactFrom H first

@@ -28,7 +28,7 @@ accepted (Line page answer page' ∷ calls) = accepted calls
 accepted (Foot page answer page' ∷ calls) = accepted calls
 accepted (Trail n d memory room answer memory' ∷ calls) = accepted calls
 
--- `One-page calls page`: since the latest begin, each line that was written was lent the page as the one before it had left it, and
+-- `OnePage calls page`: since the latest begin, each line that was written was lent the page as the one before it had left it, and
 -- the last of them left it as `page`. What a refused call was lent does not matter: it wrote nothing
 abbrev pub OnePage : List Call → List ℕ → Type 0
 OnePage [] now = ⊥

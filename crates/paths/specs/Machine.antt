@@ -54,15 +54,17 @@ find_at (suc r) k u v c st = st
 abbrev pub find : Kind → TableCell → TableCell → TableCell → State → State
 find k u v c st = find_at (st.table c).rank k u v c st
 
--- loops: over the numbers below k, ascending; over a list; and a step that is taken where a test says yes
+-- a loop over the numbers below k, ascending
 abbrev pub each : ℕ → (ℕ → State → State) → State → State
 each zero f st = st
 each (suc k) f st = f k (each k f st)
 
+-- a loop over a list, in its order
 abbrev pub each_of : List ℕ → (ℕ → State → State) → State → State
 each_of [] f st = st
 each_of (m ∷ ms) f st = each_of ms f (f m st)
 
+-- a step that is taken where a test says yes
 abbrev pub where_yes : Bool → (State → State) → State → State
 where_yes true f st = f st
 where_yes false f st = st
@@ -71,7 +73,7 @@ where_yes false f st = st
 abbrev pub is_found : TableCell → State → Bool
 is_found c st = nat_lt 0 (st.table c).rank
 
--- the cell at an end of the waiting row, and the row without it
+-- the newest cell of the row whose oldest is c, and the row without it
 abbrev pub newest_of : TableCell → List TableCell → TableCell × List TableCell
 newest_of c [] = (c, [])
 newest_of c (x ∷ xs) = ((newest_of x xs).0, c ∷ (newest_of x xs).1)

@@ -9,12 +9,12 @@ abbrev pub any_found : ℕ → ℕ → ℕ → Tabled → Bool
 any_found zero n d t = false
 any_found (suc k) n d t = cond (is_found (number_of t.facts (cell n k d)) t) true (any_found k n d t)
 
--- the pairs (n, d) with d < k that have a found cell, by fact; those with n < k, by point and then fact; and all
+-- the pairs of point n that have a found cell and a fact below k, by fact
 abbrev pub pairs_at : ℕ → ℕ → Tabled → List (ℕ × ℕ)
 pairs_at zero n t = []
 pairs_at (suc k) n t = pairs_at k n t ++ cond (any_found t.facts n k t) ((n, k) ∷ []) []
 
--- the pairs of the points below k
+-- the pairs of the points below k that have a found cell, by point and then fact
 abbrev pub pairs_below : ℕ → Tabled → List (ℕ × ℕ)
 pairs_below zero t = []
 pairs_below (suc k) t = pairs_below k t ++ pairs_at t.facts k t

@@ -10,8 +10,6 @@ use Rattle.moves.specs.declared.moves.Move.{Move}
 use Rattle.moves.specs.Words.{arrives}
 use Rattle.paths.specs.Supergraph.{Supergraph, Follows, by_step, by_past, by_call, by_return}
 
--- how a move comes about
--- the move of a kind to a point with a fact
 module _ (P : Supergraph) (Q : Rule) where
   -- `Matched p a ws open n d`: the moves ws, the latest first, are a call-matched path. It begins at the entry of procedure p with fact a and
   -- no call open, and ends at point n with fact d. The calls that are open there are `open`, by their points, the latest first.

@@ -20,12 +20,12 @@ abbrev pub any_found : ℕ → ℕ → ℕ → State → Bool
 any_found zero n d st = false
 any_found (suc k) n d st = cond (is_found (cell n k d) st) true (any_found k n d st)
 
--- the pairs (n, d) with d < k that have a found cell, by fact; and those with n < k, by point and then fact
+-- the pairs of point n that have a found cell and a fact below k, by fact
 abbrev pub pairs_at : ℕ → ℕ → ℕ → State → List (ℕ × ℕ)
 pairs_at F zero n st = []
 pairs_at F (suc k) n st = pairs_at F k n st ++ cond (any_found F n k st) ((n, k) ∷ []) []
 
--- the pairs of the points below k
+-- the pairs of the points below k that have a found cell, by point and then fact
 abbrev pub pairs_below : ℕ → ℕ → State → List (ℕ × ℕ)
 pairs_below F zero st = []
 pairs_below F (suc k) st = pairs_below F k st ++ pairs_at F F k st
@@ -63,11 +63,11 @@ pub record Number (R : TableCell → Type 0) (k : ℕ) : Type 0 where
   pub complete : (c : TableCell) → Memᴰ c list ↔ R c
   pub count : length list ≡ k
 
--- by point, then fact; and a list in which each stands before all that follow it, so that none stands twice
+-- one pair stands before another: by point, then fact
 abbrev pub Less : ℕ × ℕ → ℕ × ℕ → Type 0
 Less x y = (x.0 < y.0) ⊎ ((x.0 ≡ y.0) × (x.1 < y.1))
 
--- each stands before all that follow it
+-- each stands before all that follow it, so that none stands twice
 abbrev pub Ascending : List (ℕ × ℕ) → Type 0
 Ascending [] = Unit {0}
 Ascending (x ∷ xs) = ((y : ℕ × ℕ) → Memᴰ y xs → Less x y) × Ascending xs

@@ -1,4 +1,4 @@
--- The table as memory holds it, and what finding, sowing and settling make of it. Nodes are their numbers.
+-- The table as memory holds it, and what finding, sowing and settling make of it. Cells are their numbers.
 use Rattle.std.specs.Prelude.{ℕ, zero, suc, ◌+◌, ◌*◌, ◌/◌, ◌%◌, Bool, true, false, List, [], ◌∷◌, ◌++◌, drop, replicate, ◌==◌, nat_lt, slice_index_or, slice_set}
 use Rattle.listing.specs.declared.numbers.Cell.{Cell}
 use Rattle.listing.specs.declared.numbers.Proc.{Proc}
@@ -15,7 +15,7 @@ use Rattle.paths.specs.declared.worklist.End.{End}
 use Rattle.paths.specs.declared.worklist.End.TheVariants.{Oldest, Newest}
 use Rattle.paths.specs.Memory.{Rec, blank}
 
--- `waiting` are the numbers of the cells that wait, the oldest first
+-- a table: N, F, the records by number, how many cells are found and settled, and the numbers of those that wait, the oldest first
 pub record Tabled : Type 0 where
   pub points : ℕ
   pub facts : ℕ
@@ -63,20 +63,22 @@ find k u v c t = find_at (record_at t c).rank k u v c t
 abbrev pub is_found : ℕ → Tabled → Bool
 is_found c t = nat_lt 0 (record_at t c).rank
 
--- loops: over the numbers below k, ascending; over a list; and a step that is taken where a test says yes
+-- a loop over the numbers below k, ascending
 abbrev pub each : ℕ → (ℕ → Tabled → Tabled) → Tabled → Tabled
 each zero f t = t
 each (suc k) f t = f k (each k f t)
 
+-- a loop over a list, in its order
 abbrev pub each_of : List ℕ → (ℕ → Tabled → Tabled) → Tabled → Tabled
 each_of [] f t = t
 each_of (m ∷ ms) f t = each_of ms f (f m t)
 
+-- a step that is taken where a test says yes
 abbrev pub where_yes : Bool → (Tabled → Tabled) → Tabled → Tabled
 where_yes true f t = f t
 where_yes false f t = t
 
--- the cell at an end of the waiting row, and the row without it
+-- the newest cell of the row whose oldest is c, and the row without it
 abbrev pub newest_of : ℕ → List ℕ → ℕ × List ℕ
 newest_of c [] = (c, [])
 newest_of c (x ∷ xs) = ((newest_of x xs).0, c ∷ (newest_of x xs).1)

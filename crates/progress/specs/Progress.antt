@@ -20,16 +20,17 @@ worked_on h k end t = work h.graph h.rule h.points h.facts k end t
 abbrev pub tallies_line : Tabled → List ℕ
 tallies_line t = tallies_text (tallied t) ++ (10 ∷ [])
 
--- where nothing waits, there is nothing more to tell
+-- `rest` where nothing waits, `more` while a cell waits
 abbrev pub while_waiting : {X : Type 0} → List ℕ → X → X → X
 while_waiting [] rest more = rest
 while_waiting (c ∷ cs) rest more = more
 
--- the tallies after each of at most n portions, while a cell waits; and the table then
+-- the tallies after each of at most n portions, while a cell waits
 unfoldable pub lines : ℕ → Handed → ℕ → End → Tabled → List ℕ
 lines zero h k end t = []
 lines (suc n) h k end t = while_waiting t.waiting [] (tallies_line (worked_on h k end t) ++ lines n h k end (worked_on h k end t))
 
+-- the table after those portions
 unfoldable pub last : ℕ → Handed → ℕ → End → Tabled → Tabled
 last zero h k end t = t
 last (suc n) h k end t = while_waiting t.waiting t (last n h k end (worked_on h k end t))

@@ -16,6 +16,8 @@ pub record Seeded (h : Handed) (starts : List Start) (t : Tabled) : Type 0 where
   pub stands : Standing h (first_of h) (accepted_of h starts) (Open t)
   pub exact : ExactFrom h (first_of h)
 
+-- a table was worked off in at most n portions: the text tells the tallies after each, nothing waits, and a row of calls that led to the
+-- table goes on
 pub record WorkedOff (h : Handed) (k : ℕ) (end : End) (n : ℕ) (before : Tabled) (text : List ℕ) (after : Tabled) : Type 0 where
   pub told : text ≡ lines n h k end before
   pub leaves : after ≡ last n h k end before

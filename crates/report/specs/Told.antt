@@ -57,11 +57,12 @@ abbrev pub Feet : does.Report → List ℕ → Result ℕ Fault → List ℕ →
 Feet r page o page' = Writing (foot_turn r page) (foot_text r.lines r.table.settled) r.place page o page'
 
 module _ {S : Type 0} {stage : Stage S} where
-  -- the answer of foot, and the state that it leaves
+  -- the answer of foot
   abbrev pub footed : Result (Footed S stage) (Refusal (Report S stage)) → Answer
   footed (Ok f) = gives f.end
   footed (Err e) = refuses (number_of e.fault)
 
+  -- the state that foot leaves
   abbrev pub left_footed : Result (Footed S stage) (Refusal (Report S stage)) → State
   left_footed (Ok f) = Closed (state f.table)
   left_footed (Err e) = Begun (reported e.back)

@@ -14,11 +14,12 @@ verdict_text (Some n) = codes "refused " ++ (decimal n.0 ++ (codes " at " ++ dec
 abbrev pub move_line : (ℕ → Option Cell) → ℕ → Move → List ℕ
 move_line stands k m = move_text stands k m ++ (10 ∷ [])
 
--- the lines of words, k calls being open before them; a word that is no move's has none, nor has what follows it
+-- the line of a word's move, k calls being open before it, and then the rest; a word that is no move's has none, nor has what follows it
 abbrev pub lines_from : Option Move → (ℕ → Option Cell) → ℕ → (ℕ → List ℕ) → List ℕ
 lines_from None stands k rest = []
 lines_from (Some m) stands k rest = move_line stands k m ++ rest (opened k m.kind)
 
+-- the lines of words, k calls being open before them
 abbrev pub lines_of : (ℕ → Option Cell) → ℕ → List ℕ → List ℕ
 lines_of stands k [] = []
 lines_of stands k (x ∷ xs) = lines_from (decode x) stands k (λ j. lines_of stands j xs)

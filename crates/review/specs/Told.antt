@@ -11,16 +11,18 @@ use Rattle.text.specs.Reading.{reading}
 use Rattle.text.specs.Telling.{told_by}
 use Rattle.review.specs.Reviewed.{reviewed}
 
+-- what is told of a trail under a problem about g globals and l locals
 abbrev pub told_in : Choice → ℕ → ℕ → Meaning → List ℕ → List ℕ
 told_in choice g l m xs = reviewed (spoken_in g l) xs (check_no (handed m (rule_of choice g l) (facts_in g l)) xs (length xs))
 
--- what is told of a trail over a program, under a problem about its cells
+-- the same under a problem about the program's own cells
 abbrev pub chosen : Choice → Meaning → List ℕ → List ℕ
 chosen choice m xs = told_in choice m.globals m.locals m xs
 
--- a refused listing gives `refused k at j` alone
+-- what is told where a listing is read; a refused one gives `refused k at j` alone
 abbrev pub over_read : Result Meaning Refusal → Choice → List ℕ → List ℕ
 over_read o choice xs = told_by (λ m. chosen choice m xs) o
 
+-- what is told of a trail over a listing, by its bytes
 abbrev pub told_of : List ℕ → Choice → List ℕ → List ℕ
 told_of t choice xs = over_read (reading t) choice xs

@@ -13,16 +13,17 @@ start_no h s t = sow_no h s.procedure.0 s.fact.0 t
 abbrev pub sown_one : Handed → Start → Tabled → Tabled
 sown_one h s t = left_by (start_no h s t) t (sow h.graph h.rule h.points h.facts s.procedure.0 s.fact.0 t)
 
--- one after the other
+-- starts sown, one after the other
 abbrev pub sown_all : Handed → List Start → Tabled → Tabled
 sown_all h [] t = t
 sown_all h (s ∷ ss) t = sown_all h ss (sown_one h s t)
 
--- the starts that are accepted then, the latest first: those before, and each that is not refused
+-- the accepted starts with one more sown, unless it is refused; the latest first
 abbrev pub accepted_by : Option ℕ → Start → List (ℕ × ℕ) → List (ℕ × ℕ)
 accepted_by None s before = (s.procedure.0, s.fact.0) ∷ before
 accepted_by (Some q) s before = before
 
+-- the accepted starts with all of these sown
 abbrev pub accepted_all : Handed → List Start → Tabled → List (ℕ × ℕ) → List (ℕ × ℕ)
 accepted_all h [] t before = before
 accepted_all h (s ∷ ss) t before = accepted_all h ss (sown_one h s t) (accepted_by (start_no h s t) s before)

@@ -19,24 +19,27 @@ use Rattle.grammar.specs.declared.name.Header.{Header}
 use Rattle.text.specs.Lines.{lines}
 use Rattle.text.specs.Cells.{numbered}
 
--- what f gives of each element, where it gives something
+-- a value put before others, where there is one
 abbrev pub kept : {B : Type 0} → Option B → List B → List B
 kept None ys = ys
 kept (Some y) ys = y ∷ ys
 
+-- what f gives of each element, where it gives something
 abbrev pub collect : {A B : Type 0} → (A → Option B) → List A → List B
 collect f [] = []
 collect f (x ∷ xs) = kept (f x) (collect f xs)
 
+-- the counts of line 1, or zeros where it has none: such a text is refused
 abbrev pub or_zero : Option Header → Header
 or_zero None = record { globals = 0; locals = 0 }
 or_zero (Some h) = h
 
--- G and L, of line 1
+-- the counts of the first of some lines
 abbrev pub head : List (List ℕ) → Header
 head [] = or_zero None
 head (l ∷ ls) = or_zero (header l)
 
+-- G and L, as line 1 tells them
 unfoldable pub counted : List ℕ → Header
 counted t = head (lines t)
 
@@ -52,6 +55,7 @@ flow_of t = map controlled (written t)
 abbrev pub renumbered : List ℕ → Statement Name → Option (Statement Cell)
 renumbered t = numbered (counted t).globals (counted t).locals
 
+-- what a text means, if no question refuses it
 abbrev pub meaning_of : List ℕ → Meaning
 meaning_of t =
     record {
@@ -68,6 +72,7 @@ sized t = nat_le 1 (length t) && nat_le (length t) 32768
 abbrev pub formed : ℕ → List ℕ → Bool
 formed n line = cond (n == 1) (is_some (header line)) (is_some (statement line))
 
+-- a test of a value, yes where there is none
 abbrev pub or_true : {A : Type 0} → (A → Bool) → Option A → Bool
 or_true test None = true
 or_true test (Some x) = test x
@@ -76,16 +81,19 @@ or_true test (Some x) = test x
 abbrev pub owned_of : List ℕ → ℕ → Bool
 owned_of t n = or_true (λ s. is_some (renumbered t s)) (slice_get (written t) n)
 
--- the places of the first four questions' no: 0 for the whole text, else a line counted from 1
+-- the place at which the size of a text is refused: 0, the whole text
 unfoldable pub outsized : List ℕ → Option ℕ
 outsized t = unless (sized t) 0
 
+-- the first line without its form
 unfoldable pub misformed : List ℕ → Option ℕ
 misformed t = failing formed 1 (lines t)
 
+-- the place at which G and L are refused: line 1
 unfoldable pub unranged : List ℕ → Option ℕ
 unranged t = unless (cells_in_range (counted t).globals (counted t).locals) 1
 
+-- the place at which N is refused: 0, the whole text
 unfoldable pub miscounted : List ℕ → Option ℕ
 miscounted t = unless (points_in_range (length (written t))) 0
 
@@ -107,6 +115,7 @@ refused t =
     (or_next Length (miscounted t)
     (option_map on_line (breach (flow_of t) (owned_of t))))))
 
+-- no question refuses the text
 abbrev pub accepted : List ℕ → Bool
 accepted t = not (is_some (refused t))
 
@@ -115,5 +124,6 @@ abbrev pub answered : {A : Type 0} → Option Refusal → A → Result A Refusal
 answered None x = Ok x
 answered (Some r) x = Err r
 
+-- what reading a text answers: its meaning, or the first no
 abbrev pub reading : List ℕ → Result Meaning Refusal
 reading t = answered (refused t) (meaning_of t)

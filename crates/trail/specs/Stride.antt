@@ -18,6 +18,7 @@ opens calls height = map (λ r. r.first) (held calls height)
 abbrev pub place_of : List Record → Walk → Place
 place_of calls w = place w.cell (opens calls w.height)
 
+-- where a walk is, if it goes on
 abbrev pub before_of : List Record → Option Walk → Option Place
 before_of calls None = None
 before_of calls (Some w) = Some (place_of calls w)
@@ -50,6 +51,7 @@ pub record Stuck (t : Tabled) (w : Walk) (calls : List Record) : Type 0 where
   pub returns : kind_of (record_at t w.cell).kind ≡ kind.Return
   pub full : length calls ≤ w.height
 
+-- the move was gone back over; or the memory for calls is full
 abbrev pub Strides : Tabled → Walk → List Record → Result Stride Full → List Record → Type 0
 Strides t w calls (Ok s) calls' = Strode t w calls s calls'
 Strides t w calls (Err e) calls' = Stuck t w calls

@@ -18,6 +18,7 @@ pub record Place : Type 0 where
   pub cell : ℕ
   pub calls : List ℕ
 
+-- the place at the cell c, in callees that lead out to the calls us
 abbrev pub place : ℕ → List ℕ → Place
 place c us = record { cell = c; calls = us }
 
@@ -26,6 +27,7 @@ pub record Turn : Type 0 where
   pub kind : Kind
   pub before : Option Place
 
+-- a turn: the kind k, and where the walk is before it
 abbrev pub turn : Kind → Option Place → Turn
 turn k before = record { kind = k; before = before }
 

@@ -4,10 +4,12 @@ use Rattle.listing.specs.Refusals.{refused_text}
 use Rattle.trail_check.specs.declared.fault.Fault.{Fault}
 use Rattle.trail_check.specs.declared.fault.Fault.TheVariants.{Room, Stray}
 
+-- the number of the question that is answered no
 abbrev pub number_of : Fault → ℕ
 number_of Room = 17
 number_of (Stray j) = 18
 
+-- the place that a refusal tells: of a stray word its place, else 0
 abbrev pub place_of : Fault → ℕ
 place_of Room = 0
 place_of (Stray j) = j

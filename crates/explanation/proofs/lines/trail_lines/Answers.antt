@@ -1,4 +1,5 @@
-use Rattle.std.proofs.Common.{string_bytes, arith}
+use Rattle.std.proofs.Common.{◌∙◌, string_bytes, arith}
+use Rattle.std.proofs.Math.Nat.{min-eq_left}
 use Rattle.explanation.proofs.Written.{read_as, one_more, opened_le}
 use Rattle.explanation.proofs.lines.trail_lines.Goals as goal
 
@@ -8,7 +9,7 @@ loop-word-preserved g c =
     let stands = g.Q.Problem.stands c.args.on.now.problem.now in
     let k = c.loop-word.height in
     let w = c.in-Ok.arriving in
-    let opens = c.open_after-height.ensures (omega (arith, c.loop-word.invariant.0)) in (
+    let opens = c.open_after-height.ensures ∙ min-eq_left (omega (arith, opened_le k w.kind, c.loop-word.invariant.0)) in (
       rw opens (omega (arith, opened_le k w.kind, c.loop-word.invariant.0)),
       rw (c.in_ok-writeln.ensures.bytes, c.of-line.ensures, opens)
           (one_more m stands c.args.words.now c.loop-word.word-index k (string_bytes c.loop-word.out) c.loop-word.invariant.1 (omega arith) w
