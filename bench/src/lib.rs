@@ -9,6 +9,7 @@ pub mod rng;
 pub mod sheet;
 pub mod solve;
 pub mod table;
+pub mod tuned;
 pub mod verified;
 pub mod wire;
 

@@ -1,6 +1,6 @@
 //! The worklist solvers: tabulation as Reps, Horwitz and Sagiv (1995) write it, with the end summaries and the callers of Naeem, Lhoták and
 //! Rodriguez (2010). `tabulate` takes path edges one by one. `tabulate_batched` takes, at one point and entry fact, all facts that wait there
-//! in one go, and is the tuned one.
+//! in one go.
 
 use crate::listing::{Program, Stmt};
 use crate::problem::Flow;

@@ -12,7 +12,9 @@ fn sheets() {
     let mut printed = String::new();
     let mut compared = 0;
     for n in 1.. {
-        let Ok(listing) = std::fs::read(folder.join("data").join(format!("{n:03}.txt"))) else { break };
+        let Ok(listing) = std::fs::read(folder.join("data").join(format!("{n:03}.txt"))) else {
+            break;
+        };
         printed += &format!("{n:03}\n");
         printed += std::str::from_utf8(&sheet(&listing)).unwrap();
         compared += 1;
