@@ -150,7 +150,22 @@ struct Front<'b> {
     found: u32,
 }
 
-impl Front<'_> {
+impl<'b> Front<'b> {
+    /// With room in the ring for what one cell may find.
+    #[inline(always)]
+    fn of(records: &'b mut [Record], waiting: &'b mut Runs, found: u32) -> Front<'b> {
+        if !waiting.has_room() {
+            waiting.grow();
+        }
+        Front {
+            records,
+            head: waiting.head,
+            tail: waiting.tail,
+            ring: &mut waiting.ring,
+            found,
+        }
+    }
+
     /// Writes the records of a row of cells of one block, none of which is found, and puts the cells last: to the last run, if they go on
     /// from it. Both ways of putting are one, since which it is can hardly be foretold.
     #[inline(always)]
@@ -342,19 +357,9 @@ impl<'a> Tuned<'a> {
         let f = job.flow.facts;
         let at = n * f + a;
         self.rows[at] |= new;
-        if !self.waiting.has_room() {
-            self.waiting.grow();
-        }
-        let mut front = Front {
-            records: &mut self.records,
-            ring: &mut self.waiting.ring,
-            head: self.waiting.head,
-            tail: self.waiting.tail,
-            found: self.found,
-        };
+        let mut front = Front::of(&mut self.records, &mut self.waiting, self.found);
         front.put((n << 6 | a) as u32, at * f..at * f + f, new, kind, first, second);
-        self.waiting.tail = front.tail;
-        self.found = front.found;
+        (self.found, self.waiting.tail) = (front.found, front.tail);
         self.links.note(job, n, a, new);
     }
 
@@ -411,16 +416,7 @@ impl<'a> Tuned<'a> {
         let links = &mut self.links;
         let mut left = k;
         loop {
-            if !self.waiting.has_room() {
-                self.waiting.grow();
-            }
-            let mut front = Front {
-                records: &mut self.records,
-                ring: &mut self.waiting.ring,
-                head: self.waiting.head,
-                tail: self.waiting.tail,
-                found: self.found,
-            };
+            let mut front = Front::of(&mut self.records, &mut self.waiting, self.found);
             let full = loop {
                 if front.head == front.tail {
                     break false;
@@ -484,9 +480,7 @@ impl<'a> Tuned<'a> {
                     }
                 }
             };
-            self.waiting.head = front.head;
-            self.waiting.tail = front.tail;
-            self.found = front.found;
+            (self.found, self.waiting.head, self.waiting.tail) = (front.found, front.head, front.tail);
             if !full {
                 self.settled += k - left;
                 return k - left;
