@@ -5,7 +5,9 @@ use Rattle.listing.specs.declared.control.Control.{Control}
 use Rattle.listing.specs.declared.control.Control.TheVariants.{Next, Goto, Test, Call, Ret}
 use Rattle.listing.specs.declared.numbers.Point.{Point}
 use Rattle.listing.specs.declared.numbers.Proc.{Proc}
+use Rattle.listing.specs.declared.statement.Statement.{Statement}
 use Rattle.listing.specs.Meaning.{Meaning, flow, point}
+use Rattle.listing.specs.Statements.{controlled}
 
 -- a call of procedure p
 abbrev pub calls : ℕ → Control → Bool
@@ -14,6 +16,11 @@ calls p (Goto k) = false
 calls p (Test k) = false
 calls p (Call q) = q.0 == p
 calls p Ret = false
+
+-- a statement, if there is one, is a call of procedure p
+abbrev pub calls_at : {C : Type 0} → Option (Statement C) → ℕ → Bool
+calls_at None p = false
+calls_at (Some s) p = calls p (controlled s)
 
 -- the first call of p in a flow whose first point is n
 abbrev pub first_call : ℕ → ℕ → List Control → Option Point

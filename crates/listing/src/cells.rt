@@ -1,10 +1,12 @@
 // How many globals and locals a program has.
-ghost use Rattle.std.specs.Prelude.{◌≡◌, ◌≤◌, true, false, MatchResult};
-ghost use Rattle.listing.specs.Faults.{number_of};
+ghost use Rattle.std.specs.Prelude.{◌≡◌, ◌≤◌, true, false, MatchResult, Some};
+ghost use Rattle.listing.specs.Faults.{number_of, place_of, fault_text};
 ghost use Rattle.listing.specs.Lawful.{cells_in_range};
 ghost use Rattle.listing.specs.declared.cells.Fault.TheVariants.{Range};
 
 use crate::program::Program;
+use crate::refused::Refused;
+use std::fmt;
 
 // Why counts are not made.
 #[derive(Clone, Copy, PartialEq, Eq, Debug)]
@@ -21,6 +23,25 @@ impl Fault {
         match self {
             Fault::Range => 10,
         }
+    }
+
+    // The place that a refusal tells: 0, since counts have no line.
+    pub fn place(self) -> usize
+        ensures { result ≡ place_of self }
+    {
+        0
+    }
+}
+
+impl fmt::Display for Fault {
+    ghost output = { λ f. Some (fault_text f) };
+
+    fn fmt<W: fmt::Write>(&self, f: &mut fmt::Formatter<W>) -> fmt::Result {
+        let refused = Refused {
+            number: self.number(),
+            place: self.place(),
+        };
+        write!(f, "{refused}")
     }
 }
 
