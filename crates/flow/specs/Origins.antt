@@ -5,12 +5,12 @@ use Rattle.listing.specs.declared.numbers.Cell.{Cell}
 use Rattle.listing.specs.declared.statement.Statement.{Statement}
 use Rattle.listing.specs.declared.statement.Statement.TheVariants.{Set, Move, Add, Read, Send, Goto, Test, Call, Ret, Trim}
 use Rattle.flow.specs.CellFacts.{facts_in}
-use Rattle.flow.specs.Relation.{Rule, statement_of, guarded}
+use Rattle.flow.specs.Relation.{Rule, guarded}
 use Rattle.flow.specs.declared.edge.Edge.{Edge}
 use Rattle.flow.specs.declared.edge.Edge.TheVariants as edge
 use Rattle.flow.specs.declared.origin.Origin.{Origin}
 use Rattle.flow.specs.declared.origin.Origin.TheVariants.{Nothing, Zero, One, Two}
-use Rattle.flow.specs.declared.origin.Write.{Write}
+use Rattle.flow.specs.declared.origin.Transfer.{Transfer}
 
 -- fact e speaks of cell c
 abbrev pub speaks : ℕ → Cell → Bool
@@ -23,8 +23,8 @@ comes Zero d = d == 0
 comes (One a) d = speaks d a
 comes (Two a b) d = speaks d a || speaks d b
 
--- over a step: the fact of a written cell follows from its origin, every other from itself alone
-abbrev pub carried : Option Write → ℕ → ℕ → Bool
+-- over a step: the fact of the cell that has a transfer follows from its origin, every other from itself alone
+abbrev pub carried : Option Transfer → ℕ → ℕ → Bool
 carried None d e = d == e
 carried (Some w) d e = cond (speaks e w.to) (comes w.from d) (d == e)
 
@@ -63,17 +63,17 @@ entered g local s d e = at_call (site s) (λ c. cond (nat_le e g) (d == e) (cond
 abbrev pub returned : ℕ → Statement Cell → Cell → ℕ → ℕ → Bool
 returned g s v d e = at_call (site s) (λ c. cond (speaks e c.to) (speaks d v) (nat_le e g && d == e))
 
--- nonzero e, over an edge, where the statement writes so, and a callee's locals but the first have this origin
-abbrev pub over : ℕ → Option Write → Origin → Edge → ℕ → ℕ → Bool
-over g write local (edge.Step n s) d e = carried write d e
-over g write local (edge.Past n s) d e = passed g s d e
-over g write local (edge.Call n s) d e = entered g local s d e
-over g write local (edge.Return n s v) d e = returned g s v d e
+-- nonzero e, over an edge, where it has this transfer, and a callee's locals but the first have this origin
+abbrev pub over : ℕ → Option Transfer → Origin → Edge → ℕ → ℕ → Bool
+over g transfer local (edge.Step n s) d e = carried transfer d e
+over g transfer local (edge.Past n s) d e = passed g s d e
+over g transfer local (edge.Call n s) d e = entered g local s d e
+over g transfer local (edge.Return n s v) d e = returned g s v d e
 
--- a relation between the facts of g globals and l locals, by what a statement writes and the origin of a callee's locals but the first
-abbrev pub ruled_in : ℕ → ℕ → (Statement Cell → Option Write) → Origin → Rule
-ruled_in g l write local = guarded (facts_in g l) (λ x. over g (write (statement_of x)) local x)
+-- a relation between the facts of g globals and l locals, by the transfers of edges and the origin of a callee's locals but the first
+abbrev pub ruled_in : ℕ → ℕ → (Edge → Option Transfer) → Origin → Rule
+ruled_in g l transfers local = guarded (facts_in g l) (λ x. over g (transfers x) local x)
 
 -- the same over a program's counts of cells
-abbrev pub ruled : CellCounts → (Statement Cell → Option Write) → Origin → Rule
-ruled c write local = ruled_in c.globals c.locals write local
+abbrev pub ruled : CellCounts → (Edge → Option Transfer) → Origin → Rule
+ruled c transfers local = ruled_in c.globals c.locals transfers local

@@ -1,16 +1,15 @@
 // Problems about cells: a fact for each cell, beside zero.
-ghost use Rattle.std.specs.Prelude.{◌≡◌, ℕ, ◌+◌, ◌<◌, ◌&&◌, nat_lt, nat_le};
+ghost use Rattle.std.specs.Prelude.{◌≡◌, ℕ, ◌+◌, ◌<◌, ◌&&◌, nat_lt, nat_le, true};
 ghost use Rattle.std.specs.List.{slice_get};
 ghost use Rattle.fact_set.specs.Sets.{has};
 ghost use Rattle.flow.specs.CellFacts.{facts_of, spoken, from_each};
 ghost use Rattle.flow.specs.Guarded.{guarded_within, guarded_zero};
 ghost use Rattle.flow.specs.Origins.{comes, over, ruled};
-ghost use Rattle.flow.specs.Relation.{statement_of};
 ghost use Rattle.std.proofs.Common.{arith, rules};
 
 use crate::edge::Edge;
 use crate::interface::{Problem, Start};
-use crate::origin::{Origin, Write, cell_of};
+use crate::origin::{Origin, Transfer, cell_of};
 use crate::rule::CellRule;
 use fact_set::FactSet;
 pub use listing::cells::CellCounts;
@@ -45,12 +44,12 @@ impl<R: CellRule> CellProblem<R> {
 
     // Where the fact of a cell comes from over an edge.
     fn origin(&self, edge: Edge, cell: Cell) -> Origin
-        ensures { (d : ℕ) → comes result d ≡ over self.now.counts.globals (R.writes (statement_of edge)) R.other_locals edge d (cell.0 + 1) }
+        ensures { (d : ℕ) → comes result d ≡ over self.now.counts.globals (R.transfers edge) R.other_locals edge d (cell.0 + 1) }
     {
         match edge {
-            // the written cell's from what is written, every other cell's from itself
-            Edge::Step { statement, .. } => match self.rule.write(statement) {
-                Some(write) if write.to == cell => write.from,
+            // that of the cell that has a transfer as it says, every other cell's from itself
+            Edge::Step { .. } => match self.rule.transfer(edge) {
+                Some(transfer) if transfer.to == cell => transfer.from,
                 _ => Origin::One(cell),
             },
             // past a call: that of a local other than the call's own from itself
@@ -106,14 +105,14 @@ impl<R: CellRule> CellProblem<R> {
     // The nonzero facts below 64 that follow from d over an edge; zero is left to the caller.
     fn cell_targets(&self, edge: Edge, d: Fact) -> FactSet
         requires { d.0 < 64 }
-        ensures { (e : ℕ) → has result e ≡ (nat_lt e 64 && over self.now.counts.globals (R.writes (statement_of edge)) R.other_locals edge d.0 e) }
+        ensures { (e : ℕ) → has result e ≡ (nat_lt e 64 && over self.now.counts.globals (R.transfers edge) R.other_locals edge d.0 e) }
     {
         let own = FactSet::only(d);
         let globals = self.global_facts();
         match edge {
-            // a fact from itself, but the written cell's from what is written
-            Edge::Step { statement, .. } => match self.rule.write(statement) {
-                Some(write) => write.onto(own, d),
+            // a fact from itself, but that of the cell that has a transfer as it says
+            Edge::Step { .. } => match self.rule.transfer(edge) {
+                Some(transfer) => transfer.onto(own, d),
                 None => own,
             },
             // past a call: a local's from itself, but that of the call's own from nothing
@@ -122,7 +121,7 @@ impl<R: CellRule> CellProblem<R> {
                 ..
             } => {
                 let from = Origin::Nothing;
-                Write { to, from }.onto(own.difference(globals), d)
+                Transfer { to, from }.onto(own.difference(globals), d)
             }
             // into the callee: a global's from itself, local 0's from the argument's, another local's as the rule says
             Edge::Call {
@@ -131,7 +130,7 @@ impl<R: CellRule> CellProblem<R> {
             } => {
                 let to = Cell(self.counts.globals());
                 let from = Origin::One(argument);
-                let kept = Write { to, from }.onto(own.intersection(globals), d);
+                let kept = Transfer { to, from }.onto(own.intersection(globals), d);
                 let other_locals = FactSet::below(64).from(self.counts.globals() + 2);
                 if self.rule.other_locals().sources().has(d) {
                     kept.union(other_locals)
@@ -146,7 +145,7 @@ impl<R: CellRule> CellProblem<R> {
                 ..
             } => {
                 let from = Origin::One(result);
-                Write { to, from }.onto(own.intersection(globals), d)
+                Transfer { to, from }.onto(own.intersection(globals), d)
             }
             _ => FactSet::empty(),
         }
@@ -162,23 +161,19 @@ impl<R: CellRule> Problem for CellProblem<R> {
 
     ghost count = { λ q. facts_of q.counts };
 
-    ghost relation = { λ q. ruled q.counts R.writes R.other_locals };
+    ghost relation = { λ q. ruled q.counts R.transfers R.other_locals };
 
     ghost stands = { λ q. spoken q.counts };
 
     ghost starts = { λ q. from_each 0 (R.starting_facts (facts_of q.counts)) };
 
-    ghost zeroed = { Unit {0} };
+    ghost joinable = { true };
 
     ghost few = { Prim.search rules };
 
     ghost within = { λ q. guarded_within _ _ };
 
-    ghost zero = { λ j q. guarded_zero (facts_of q.counts) (λ x. over q.counts.globals (R.writes (statement_of x)) R.other_locals x) (omega arith) };
-
-    fn own_number(&self) -> u8 {
-        R::NUMBER
-    }
+    ghost zero = { λ j q. guarded_zero (facts_of q.counts) (λ x. over q.counts.globals (R.transfers x) R.other_locals x) (omega arith) };
 
     // F = G + L + 1
     fn facts(&self) -> u8 {

@@ -1,11 +1,12 @@
 // A problem, by its count of facts and the relation between them.
-ghost use Rattle.std.specs.Prelude.{◌≡◌, ℕ, List, Option};
+ghost use Rattle.std.specs.Prelude.{◌≡◌, ℕ, Bool, true, List, Option};
 ghost use Rattle.std.specs.List.{slice_get};
 ghost use Rattle.fact_set.specs.Sets.{has};
 ghost use Rattle.flow.specs.declared.interface.Start.{Start};
 ghost use Rattle.flow.specs.Relation.{Rule, Few, Within, KeepsZero};
 
 use crate::edge::Edge;
+use crate::gathering::facts_where;
 use fact_set::FactSet;
 use listing::numbers::{Fact, Proc};
 
@@ -16,7 +17,8 @@ pub struct Start {
     pub fact: Fact,
 }
 
-// Any relation between facts from 0 to F - 1 over the edges that there are.
+// Any relation between facts from 0 to F - 1 over the edges that there are. Who writes a problem says F, the relation, what a fact stands for and
+// the default starts; the sets of facts have a body here, for a problem that has no shorter way to them.
 pub trait Problem {
     // what a fact's number stands for
     type Item;
@@ -34,12 +36,8 @@ pub trait Problem {
 
     ghost starts: { Self → List Start };
 
-    // a mark of problems in which zero follows from zero alone
-    ghost zeroed: { Type 0 };
-
-    // The problem's own number.
-    fn own_number(&self) -> u8
-        ensures { result ≡ NUMBER };
+    // the mark of problems in which zero follows from zero alone, and which may so be joined
+    ghost joinable: { Bool };
 
     // F
     fn facts(&self) -> u8
@@ -57,17 +55,29 @@ pub trait Problem {
     fn follows(&self, edge: Edge, d: Fact, e: Fact) -> bool
         ensures { result ≡ relation self.now edge d.0 e.0 };
 
-    // The facts that follow from a fact over an edge.
+    // The facts that follow from a fact over an edge: here each fact is asked.
     fn targets(&self, edge: Edge, d: Fact) -> FactSet
-        ensures { (e : ℕ) → has result e ≡ relation self.now edge d.0 e };
+        ensures { (e : ℕ) → has result e ≡ relation self.now edge d.0 e }
+    {
+        let follows = |onto: Fact| -> bool
+            ensures { result ≡ relation self.entry.now edge d.0 onto.0 }
+        { self.follows(edge, d, onto) };
+        facts_where(self.facts(), follows)
+    }
 
-    // The facts from which a fact follows over an edge.
+    // The facts from which a fact follows over an edge: here each fact is asked.
     fn sources(&self, edge: Edge, e: Fact) -> FactSet
-        ensures { (d : ℕ) → has result d ≡ relation self.now edge d e.0 };
+        ensures { (d : ℕ) → has result d ≡ relation self.now edge d e.0 }
+    {
+        let leads = |from: Fact| -> bool
+            ensures { result ≡ relation self.entry.now edge from.0 e.0 }
+        { self.follows(edge, from, e) };
+        facts_where(self.facts(), leads)
+    }
 
     ghost few: { (q : Self) → Few (count q) };
 
     ghost within: { (q : Self) → Within (count q) (relation q) };
 
-    ghost zero: { zeroed → (q : Self) → KeepsZero (relation q) };
+    ghost zero: { joinable ≡ true → (q : Self) → KeepsZero (relation q) };
 }

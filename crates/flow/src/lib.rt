@@ -5,6 +5,7 @@ pub mod cells;
 pub mod choice;
 pub mod edge;
 pub mod fault;
+mod gathering;
 pub mod interface;
 pub mod origin;
 pub mod raw;

@@ -19,9 +19,9 @@ pub enum Origin {
     Two(Cell, Cell),
 }
 
-// A cell that is written, and where its fact comes from.
+// A cell whose fact does not stay its own over an edge, and where it comes from.
 #[derive(Clone, Copy)]
-pub struct Write {
+pub struct Transfer {
     pub to: Cell,
     pub from: Origin,
 }
@@ -56,8 +56,8 @@ impl Origin {
     }
 }
 
-impl Write {
-    // The kept facts, with the written cell's put in if it follows from d, and else taken out.
+impl Transfer {
+    // The kept facts, with the cell's put in if it follows from d, and else taken out.
     #[tactic(auto, using(crate::proofs::Targets::written))]
     pub(crate) fn onto(self, kept: FactSet, d: Fact) -> FactSet
         requires { d.0 < 64 }

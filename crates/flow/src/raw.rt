@@ -1,10 +1,10 @@
 // Problem 2: which cells may hold a raw reading.
-ghost use Rattle.flow.specs.Raw.{raw_write};
+ghost use Rattle.flow.specs.Raw.{raw_transfer};
 ghost use Rattle.flow.specs.declared.origin.Origin.TheVariants.{Nothing};
 
-use crate::origin::{Origin, Write};
+use crate::edge::Edge;
+use crate::origin::{Origin, Transfer};
 use crate::rule::CellRule;
-use listing::numbers::Cell;
 use listing::statement::Statement;
 
 // Fact c + 1 says that cell c may hold a raw reading.
@@ -16,13 +16,16 @@ impl CellRule for Raw {
 
     ghost NUMBER = { 2 };
 
-    ghost writes = { raw_write };
+    ghost transfers = { raw_transfer };
 
     ghost other_locals = { Nothing };
 
     ghost starting_facts = { λ _. 1 };
 
-    fn write(&self, statement: Statement<Cell>) -> Option<Write> {
+    fn transfer(&self, edge: Edge) -> Option<Transfer> {
+        let Edge::Step { statement, .. } = edge else {
+            return None;
+        };
         let (to, from) = match statement {
             Statement::Set { to } | Statement::Trim { to, .. } => (to, Origin::Nothing),
             Statement::Read { to } => (to, Origin::Zero),
@@ -30,7 +33,7 @@ impl CellRule for Raw {
             Statement::Add { to, left, right } => (to, Origin::Two(left, right)),
             _ => return None,
         };
-        Some(Write { to, from })
+        Some(Transfer { to, from })
     }
 
     fn other_locals(&self) -> Origin {

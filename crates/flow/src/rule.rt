@@ -1,13 +1,11 @@
 // What sets one problem about cells apart from another.
 ghost use Rattle.std.specs.Prelude.{◌≡◌, ℕ, Option};
-ghost use Rattle.listing.specs.declared.numbers.Cell.{Cell};
-ghost use Rattle.listing.specs.declared.statement.Statement.{Statement};
+ghost use Rattle.flow.specs.declared.edge.Edge.{Edge};
 ghost use Rattle.flow.specs.declared.origin.Origin.{Origin};
-ghost use Rattle.flow.specs.declared.origin.Write.{Write};
+ghost use Rattle.flow.specs.declared.origin.Transfer.{Transfer};
 
-use crate::origin::{Origin, Write};
-use listing::numbers::Cell;
-use listing::statement::Statement;
+use crate::edge::Edge;
+use crate::origin::{Origin, Transfer};
 
 pub trait CellRule {
     // the problem's own number
@@ -15,15 +13,15 @@ pub trait CellRule {
 
     ghost NUMBER: { ℕ };
 
-    ghost writes: { Statement Cell → Option Write };
+    ghost transfers: { Edge → Option Transfer };
 
     ghost other_locals: { Origin };
 
     ghost starting_facts: { ℕ → ℕ };
 
-    // The cell that a statement other than a call writes, if any, and where its fact comes from.
-    fn write(&self, statement: Statement<Cell>) -> Option<Write>
-        ensures { result ≡ writes statement };
+    // The cell whose fact does not stay its own over a step, if there is one, and where it comes from.
+    fn transfer(&self, edge: Edge) -> Option<Transfer>
+        ensures { result ≡ transfers edge };
 
     // Where the facts of a callee's locals come from, but for local 0, which gets the argument.
     fn other_locals(&self) -> Origin

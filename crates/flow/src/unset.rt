@@ -1,10 +1,10 @@
 // Problem 1: which cells may be unset.
-ghost use Rattle.flow.specs.Unset.{unset_write};
+ghost use Rattle.flow.specs.Unset.{unset_transfer};
 ghost use Rattle.flow.specs.declared.origin.Origin.TheVariants.{Zero};
 
-use crate::origin::{Origin, Write};
+use crate::edge::Edge;
+use crate::origin::{Origin, Transfer};
 use crate::rule::CellRule;
-use listing::numbers::Cell;
 use listing::statement::Statement;
 
 // Fact c + 1 says that cell c may be unset.
@@ -16,20 +16,23 @@ impl CellRule for Unset {
 
     ghost NUMBER = { 1 };
 
-    ghost writes = { unset_write };
+    ghost transfers = { unset_transfer };
 
     ghost other_locals = { Zero };
 
     ghost starting_facts = { λ facts. facts };
 
-    fn write(&self, statement: Statement<Cell>) -> Option<Write> {
+    fn transfer(&self, edge: Edge) -> Option<Transfer> {
+        let Edge::Step { statement, .. } = edge else {
+            return None;
+        };
         let (to, from) = match statement {
             Statement::Set { to } | Statement::Read { to } => (to, Origin::Nothing),
             Statement::Move { to, from } | Statement::Trim { to, from } => (to, Origin::One(from)),
             Statement::Add { to, left, right } => (to, Origin::Two(left, right)),
             _ => return None,
         };
-        Some(Write { to, from })
+        Some(Transfer { to, from })
     }
 
     fn other_locals(&self) -> Origin {

@@ -1,5 +1,6 @@
 // A problem whose relation is given as a table of bits.
 #![tactic(auto)]
 
+pub mod fault;
 pub mod problem;
 mod rows;

@@ -1,7 +1,8 @@
 // A problem given by its table.
 ghost use Rattle.std.specs.Prelude.{◌≡◌, ◌≤◌};
 
-use crate::rows::{facts_in, only_if, row_number};
+use crate::fault::{Fault, Refusal};
+use crate::rows::{facts_in, row_number};
 use fact_set::FactSet;
 use flow::edge::Edge;
 use flow::interface::{Problem, Start};
@@ -18,33 +19,39 @@ pub struct TabledProblem {
 }
 
 impl TabledProblem {
-    ghost use Rattle.std.specs.Prelude.{true, false, MatchOption};
+    ghost use Rattle.std.specs.Prelude.{true, false, MatchResult};
     ghost use Rattle.tabled_problem.specs.Rows.{count_in_range};
+    ghost use Rattle.tabled_problem.specs.declared.fault.Fault.TheVariants.{Facts};
 
-    // The problem of so many facts that the rows give, if there may be so many facts.
-    pub fn new(rows: Vec<u64>, facts: u8) -> Option<TabledProblem>
-        ensures { MatchOption result
-            (count_in_range facts ≡ false)
-            (λ q. (count_in_range facts ≡ true) × (q.rows.items ≡ rows.items) × (q.facts ≡ facts)) }
+    // The problem of so many facts that the rows give, if there may be so many facts; else the rows come back.
+    pub fn new(rows: Vec<u64>, facts: u8) -> Result<TabledProblem, Refusal>
+        ensures { MatchResult result
+            (λ q. (count_in_range facts ≡ true) × (q.rows.items ≡ rows.items) × (q.facts ≡ facts))
+            (λ e. (count_in_range facts ≡ false) × (e.fault ≡ Facts) × (e.rows ≡ rows)) }
     {
         if (1..=64).contains(&facts) {
-            Some(TabledProblem { rows, facts })
+            Ok(TabledProblem { rows, facts })
         } else {
-            None
+            Err(Refusal {
+                fault: Fault::Facts,
+                rows,
+            })
         }
     }
 }
 
 impl Problem for TabledProblem {
+    ghost use Rattle.std.specs.Prelude.{false};
     ghost use Rattle.std.proofs.Common.{rules};
     ghost use Rattle.flow.specs.CellFacts.{from_each};
     ghost use Rattle.tabled_problem.specs.Rows.{tabled, itself};
 
     type Item = Fact;
 
-    const NUMBER: u8 = 0;
+    // of no problem that is known by a number
+    const NUMBER: u8 = 255;
 
-    ghost NUMBER = { 0 };
+    ghost NUMBER = { 255 };
 
     ghost count = { λ q. q.facts };
 
@@ -54,17 +61,13 @@ impl Problem for TabledProblem {
 
     ghost starts = { λ q. from_each 0 q.facts };
 
-    ghost zeroed = { ⊥ };
+    ghost joinable = { false };
 
     ghost few = { Prim.search rules };
 
     ghost within = { Prim.search rules };
 
     ghost zero = { Prim.search rules };
-
-    fn own_number(&self) -> u8 {
-        0
-    }
 
     fn facts(&self) -> u8 {
         self.facts
@@ -96,15 +99,5 @@ impl Problem for TabledProblem {
         } else {
             FactSet::empty()
         }
-    }
-
-    // Each fact is asked in turn, since a row tells only what follows.
-    fn sources(&self, edge: Edge, e: Fact) -> FactSet {
-        let mut sources = FactSet::empty();
-        for d in 0..self.facts {
-            let d = Fact(d);
-            sources = sources.union(only_if(self.follows(edge, d, e), d));
-        }
-        sources
     }
 }

@@ -1,5 +1,5 @@
 // The rows of bits by which a relation is given.
-ghost use Rattle.std.specs.Prelude.{◌≡◌, ℕ, ◌&&◌, ◌==◌, nat_lt};
+ghost use Rattle.std.specs.Prelude.{◌≡◌, ℕ};
 ghost use Rattle.fact_set.specs.Sets.{has};
 ghost use Rattle.tabled_problem.specs.Rows.{point_left, place_of_kind, row_number, bit_in};
 
@@ -44,15 +44,4 @@ pub(crate) fn facts_in(rows: &[u64], row: usize) -> FactSet
     ensures { (e : ℕ) → has result e ≡ bit_in rows.now row e }
 {
     FactSet(rows.get(row).copied().unwrap_or(0))
-}
-
-// A fact alone, if it holds and is below 64; otherwise none.
-pub(crate) fn only_if(holds: bool, fact: Fact) -> FactSet
-    ensures { (e : ℕ) → has result e ≡ (holds && (nat_lt e 64 && e == fact.0)) }
-{
-    if holds {
-        FactSet::only(fact)
-    } else {
-        FactSet::empty()
-    }
 }

@@ -1,5 +1,5 @@
 -- The facts of which something holds, gathered one by one.
-use Rattle.std.proofs.Common.{◌≡◌, ℕ, ◌+◌, ◌<◌, Bool, false, ◌&&◌, ◌||◌, ◌==◌, nat_lt, inl, inr, arith}
+use Rattle.std.proofs.Common.{◌≡◌, ℕ, ◌+◌, ◌<◌, Bool, true, false, ◌&&◌, ◌||◌, ◌==◌, nat_lt, refl, inl, inr, arith}
 use Rattle.std.proofs.lemmas.Bool.{cases_eq, ne_eqb}
 use Rattle.std.proofs.lemmas.Grind.{common_steps}
 
@@ -16,3 +16,8 @@ gathered holds d k h = elim (cases_eq k d) [
   | inl q ↦ rw q (same (holds d) d h)
   | inr n ↦ other (holds k) (holds d) d k (ne_eqb k d n)
 ]
+
+-- a test that holds below a bound alone needs no bound beside it
+pub bounded : (f e : ℕ) (r : Bool) → (r ≡ true → e < f) → (nat_lt e f && r) ≡ r
+bounded f e false h = grind (arith, common_steps)
+bounded f e true h = let below = h refl in grind (arith, common_steps)
