@@ -1,7 +1,7 @@
 -- What a caller may carry from call to call leads to the law.
 use Rattle.std.proofs.Common.{ℕ, List, [], ◌∷◌, take, sym, refl, ap, subst}
 use Rattle.paths.specs.Tabled.{Tabled}
-use Rattle.paths.specs.Does.{Handed, Answer, Turn, no, nothing_left, writes, memory_by, line_turn, line_answer, Call, Line, Newly, not_yet_called, sown, worked, closed, begun_on, lined, footed, trailed}
+use Rattle.paths.specs.Does.{Handed, Answer, Turn, no, nothing_left, writes, memory_by, line_turn, line_answer, Call, Line, Newly, not_yet_called, sown, worked, closed, reopened, begun_on, lined, footed, abandoned, trailed}
 use Rattle.paths.specs.Law.{OnePage, Reported, Told, Sound}
 use Rattle.paths.specs.Usage.{Usage}
 use Rattle.paths.proofs.Lawly.{the_law}
@@ -17,8 +17,10 @@ usage H sound first new = record {
   opened = record { calls = []; row = not_yet_called; starts_are = refl };
   sown = λ starts p d k t t' s does.
       record { calls = _; row = sown s.row (λ _ _. refl) does; starts_are = ap (λ (xs : List (ℕ × ℕ)). (p, d) ∷ xs) s.starts_are };
+  not_sown = λ starts p d q t t' s does. record { calls = _; row = sown s.row (λ _ _. refl) does; starts_are = s.starts_are };
   worked = λ starts k end answer t t' s does. record { calls = _; row = worked s.row (λ _ _. refl) does; starts_are = s.starts_are };
   closed = λ starts answer t s' s does. record { calls = _; row = closed s.row does; starts_are = s.starts_are };
+  reopened = λ starts t s. record { calls = _; row = reopened s.row; starts_are = s.starts_are };
   begins = λ starts t page s. record { calls = _; row = begun_on s.row; starts_are = s.starts_are; one = tt };
   lined = λ starts r r' answer page page' s does. record {
     calls = _;
@@ -35,6 +37,11 @@ usage H sound first new = record {
             ((the_law H sound first new _ s' row).reports [] s.calls k page page' refl s.one),
         record { calls = _; row = row; starts_are = s.starts_are },
       );
+  begins_report = λ starts t s. record { calls = _; row = begun_on s.row; starts_are = s.starts_are };
+  on_page = λ starts r page s. record { calls = _; row = s.row; starts_are = s.starts_are };
+  lined_anywhere = λ starts r r' answer page page' s does. record { calls = _; row = lined s.row does; starts_are = s.starts_are };
+  footed_anywhere = λ starts r s' answer page page' s does. record { calls = _; row = footed s.row does; starts_are = s.starts_are };
+  abandoned = λ starts r s. record { calls = _; row = abandoned s.row; starts_are = s.starts_are };
   trailed = λ starts t n d room answer memory memory' s does.
       subst (λ (xs : List (ℕ × ℕ)). Told H xs n d answer memory room memory') s.starts_are
       ((the_law H sound first new _ _ (trailed s.row does)).trails [] s.calls n d room answer memory memory' refl);
