@@ -40,7 +40,7 @@ pub(crate) fn problem_of<P: Program>(
     ensures facts { IfSome result (λ q. q.facts ≡ facts) }
 {
     if relation.len() == bytes_for(program, facts) {
-        TabledProblem::new(rows_of(alloc, relation).ok()?, facts)
+        TabledProblem::new(rows_of(alloc, relation).ok()?, facts).ok()
     } else {
         None
     }

@@ -64,5 +64,5 @@ pub fn report<P: Program, Q: Problem>(
     ensures law { IfOk result (λ _. Tells (handed_by P.Program Q.Problem on.now) (Q.starts on.now.problem.now) room) }
 {
     let report = written(heap, on, room)?;
-    told(heap, on.problem.own_number(), report)
+    told(heap, Q::NUMBER, report)
 }
