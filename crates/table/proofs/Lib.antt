@@ -18,3 +18,4 @@ pub mod Settles
 pub mod Works
 pub mod Opens
 pub mod Pairs
+pub mod Owning

@@ -1,9 +1,10 @@
 // Opening a table, closing it, opening it again, and ending it.
-ghost use Rattle.std.specs.Prelude.{◌≡◌, ◌+◌, ◌*◌, ◌≤◌, ◌++◌, drop, length, replicate, vec_len};
+ghost use Rattle.std.specs.Prelude.{◌≡◌, ◌+◌, ◌*◌, ◌≤◌, ◌++◌, drop, length, map, replicate, vec_len, IfOk, MatchResult};
 ghost use Rattle.paths.specs.Does.{Closes};
 ghost use Rattle.paths.specs.Handing.{handed_by};
 ghost use Rattle.records.specs.Blank.{blank};
-ghost use Rattle.table.specs.State.{state};
+ghost use Rattle.table.specs.Own.{OwnFields};
+ghost use Rattle.table.specs.State.{rec, state, spare};
 ghost use Rattle.table.specs.Told.{NewlyMade, Opens, closed, left_closed, SameCore, tallied};
 
 use crate::state::{Closed, ClosedTable, Core, Open, OpenTable, Stage, Staged};
@@ -54,11 +55,13 @@ fn cleared<P: Program, Q: Problem>(memory: Vec<Record>, on: &Analysis<P, Q>, siz
 impl Staged<Open> {
     // Opens a table in a memory that has a record for each of its cells. The first records are cleared, the rest stay; a memory that is
     // too short comes back as it was.
+    #[tactic(auto, using(crate::proofs::Owning::own_fields))]
     pub fn open<P: Program, Q: Problem>(
         memory: Vec<Record>,
         on: &Analysis<P, Q>,
     ) -> Result<OpenTable, Refusal<Vec<Record>>>
-        ensures { Opens (handed_by P.Program Q.Problem on.now) memory result }
+        ensures opens { Opens (handed_by P.Program Q.Problem on.now) memory result }
+        ensures own { IfOk result (λ t. OwnFields (state t) t.core.records.items) }
     {
         let size = records_for(on);
         if memory.len() < size as usize {
@@ -74,9 +77,11 @@ impl Staged<Open> {
     }
 
     // Closes the table, unless a cell still waits.
+    #[tactic(auto, using(crate::proofs::Owning::own_fields))]
     pub fn close(self) -> Result<ClosedTable, Refusal<OpenTable>>
         ensures closes { Closes (state self) (closed result) (left_closed result) }
         ensures same { SameCore self.core result }
+        ensures own { MatchResult result (λ t. OwnFields (state t) t.core.records.items) (λ e. OwnFields (state e.back) e.back.core.records.items) }
     {
         if self.core.any_waits() {
             return Err(Refusal {
@@ -93,8 +98,10 @@ impl Staged<Open> {
 
 impl Staged<Closed> {
     // Opens the table again.
+    #[tactic(auto, using(crate::proofs::Owning::own_fields))]
     pub fn reopen(self) -> OpenTable
-        ensures { result.core ≡ self.core }
+        ensures same { result.core ≡ self.core }
+        ensures own { OwnFields (state result) result.core.records.items }
     {
         let core = self.core;
         OpenTable {
@@ -121,8 +128,12 @@ impl<S: Stage> Staged<S> {
     }
 
     // Ends the table, and gives the memory back.
+    #[tactic(auto, using(crate::proofs::Owning::own_fields))]
     pub fn end(self) -> Vec<Record>
-        ensures { result ≡ self.core.records }
+        ensures memory { result ≡ self.core.records }
+        ensures records { map rec result.items ≡ (state self).records }
+        ensures own { OwnFields (state self) result.items }
+        ensures spare { drop ((state self).points * (state self).facts * (state self).facts) result.items ≡ spare self.core }
     {
         self.core.records
     }

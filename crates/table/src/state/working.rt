@@ -5,6 +5,7 @@ ghost use Rattle.paths.specs.Handing.{handed_by};
 ghost use Rattle.moves.specs.declared.moves.Kind.TheVariants as kind;
 ghost use Rattle.paths.specs.Table.{cell, number_of};
 ghost use Rattle.paths.specs.Tabled.{find, is_found, work};
+ghost use Rattle.table.specs.Own.{OwnFields};
 ghost use Rattle.table.specs.State.{inner, state, spare, Kept, Serves};
 ghost use Rattle.table.specs.Settling.{Enters};
 ghost use Rattle.table.specs.Told.{one_if_yes, number_given, CountsStay, Stops, Portions};
@@ -72,6 +73,7 @@ impl Core {
 
 impl Staged<Open> {
     // Finds the cell of a procedure's entry with a fact, as a start: whether it is new. The start is accepted either way.
+    #[tactic(auto, using(crate::proofs::Owning::own_fields))]
     pub fn sow<P: Program, Q: Problem>(
         &mut self,
         on: &Analysis<P, Q>,
@@ -81,6 +83,7 @@ impl Staged<Open> {
         ensures sows { Sows (handed_by P.Program Q.Problem on.now) p.0 d.0 (state self.old) (one_if_yes result) (state self.new) }
         ensures counts { CountsStay (state self.old) (state self.new) }
         ensures refused { OnErr result (self.new ≡ self.old) }
+        ensures own { OwnFields (state self.new) self.new.core.records.items }
         ensures spare { spare self.new.core ≡ spare self.old.core }
     {
         if !self.core.serves(on) {
@@ -94,6 +97,7 @@ impl Staged<Open> {
     }
 
     // Settles up to k cells, taken from an end of the row, while one waits; gives their number.
+    #[tactic(auto, using(crate::proofs::Owning::own_fields))]
     pub fn work<P: Program, Q: Problem>(
         &mut self,
         on: &Analysis<P, Q>,
@@ -107,6 +111,7 @@ impl Staged<Open> {
         ensures bound { let t = state self.new in t.settled ≤ t.points * t.facts * t.facts }
         ensures portions { OnOk result (Portions (handed_by P.Program Q.Problem on.now) k end (state self.old) (state self.new)) }
         ensures refused { OnErr result (self.new ≡ self.old) }
+        ensures own { OwnFields (state self.new) self.new.core.records.items }
         ensures spare { spare self.new.core ≡ spare self.old.core }
     {
         if !self.core.serves(on) {
