@@ -9,7 +9,7 @@ use Rattle.paths.specs.Tabled.{Tabled, newly_in, work}
 use Rattle.paths.specs.declared.worklist.End.TheVariants.{Oldest}
 use Rattle.records.specs.declared.fault.Fault.{Fault}
 use Rattle.records.specs.declared.fault.Fault.TheVariants.{Full, Memory}
-use Rattle.starts.specs.Sown.{sown_all, accepted_all}
+use Rattle.starts.specs.Sown.{given_starts, sown_all, accepted_all}
 use Rattle.table.specs.State.{rec, state, ClosedTable}
 use Rattle.table.specs.Told as told
 use Rattle.findings.specs.Report.{report_text, Led}
@@ -24,11 +24,11 @@ run_out h t = work h.graph h.rule h.points h.facts (h.points * h.facts * h.facts
 
 -- the table with the default starts sown and every cell settled
 abbrev pub settled : Handed → List Start → List Rec → Tabled
-settled h starts memory = run_out h (sown_all h (take 255 starts) (opened h memory))
+settled h starts memory = run_out h (sown_all h (given_starts starts) (opened h memory))
 
 -- the default starts that are accepted, the latest first
 abbrev pub accepted : Handed → List Start → List Rec → List (ℕ × ℕ)
-accepted h starts memory = accepted_all h (take 255 starts) (opened h memory) []
+accepted h starts memory = accepted_all h (given_starts starts) (opened h memory) []
 
 -- a table's report, where it fits a page of so many bytes
 abbrev pub on_page : Tabled → ℕ → Result (List ℕ) Fault

@@ -1,5 +1,5 @@
 -- A memory with a record for each cell.
-use Rattle.std.proofs.Common.{◌≡◌, ℕ, ◌*◌, List, [], ◌∷◌, ◌++◌, map, length, take, replicate, sym, refl, ap, ◌∙◌, subst, arith}
+use Rattle.std.proofs.Common.{◌≡◌, ℕ, ◌*◌, List, [], ◌∷◌, ◌++◌, map, length, replicate, sym, refl, ap, ◌∙◌, subst, arith}
 use lib.ListN.{length-replicate}
 use Rattle.std.proofs.lemmas.Bool.{cond-true, le-leb}
 use Rattle.flow.specs.declared.interface.Start.{Start}
@@ -13,7 +13,7 @@ use Rattle.paths.specs.Memory as memory
 use Rattle.paths.specs.Tabled.{Tabled, newly_in}
 use Rattle.records.specs.Blank.{blank}
 use Rattle.records.specs.declared.record.Record.{Record}
-use Rattle.starts.specs.Sown.{sown_all, Carries}
+use Rattle.starts.specs.Sown.{given_starts, sown_all, Carries}
 use Rattle.table.specs.State.{rec}
 use Rattle.table.specs.Told.{CountsStay}
 use Rattle.table.proofs.Opens.{blank_records}
@@ -35,14 +35,14 @@ module _ (h : Handed) (cells : ℕ) (rs : List Record) (size : cells ≡ h.point
 
   -- and the table that it gives leads on
   pub sown_from : (starts : List Start) (first t : Tabled) → first ≡ newly_in h.points h.facts (map rec rs) → ExactFrom h first
-      → t ≡ sown_all h (take 255 starts) first → CountsStay first t → Carries h (take 255 starts) first t → Seeded h starts t
+      → t ≡ sown_all h (given_starts starts) first → CountsStay first t → Carries h (given_starts starts) first t → Seeded h starts t
   sown_from starts first t is exact after counts carries =
       let f : first ≡ first_of h = is ∙ ap (newly_in h.points h.facts) held in
       record {
-        state_is = after ∙ ap (sown_all h (take 255 starts)) f;
+        state_is = after ∙ ap (sown_all h (given_starts starts)) f;
         points = counts.points ∙ ap (λ (x : Tabled). x.points) f;
         facts = counts.facts ∙ ap (λ (x : Tabled). x.facts) f;
-        stands = (subst (λ (x : Tabled). Carries h (take 255 starts) x t) f carries).row (first_of h) []
+        stands = (subst (λ (x : Tabled). Carries h (given_starts starts) x t) f carries).row (first_of h) []
             (record { calls = []; row = not_yet_called; starts_are = refl });
         exact = subst (ExactFrom h) f exact;
       }

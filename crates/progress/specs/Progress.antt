@@ -1,5 +1,5 @@
 -- What is told of a tabulation in portions, byte for byte.
-use Rattle.std.specs.Prelude.{◌≡◌, ℕ, zero, suc, ◌+◌, ◌*◌, List, [], ◌∷◌, ◌++◌, take, replicate, codes, decimal}
+use Rattle.std.specs.Prelude.{◌≡◌, ℕ, zero, suc, ◌+◌, ◌*◌, List, [], ◌∷◌, ◌++◌, replicate, codes, decimal}
 use Rattle.flow.specs.declared.interface.Start.{Start}
 use Rattle.paths.specs.Does.{Handed}
 use Rattle.paths.specs.Memory.{blank}
@@ -9,7 +9,7 @@ use Rattle.paths.specs.Tabled.{Tabled, newly_in, work}
 use Rattle.paths.specs.Theorem.{Accepted}
 use Rattle.paths.specs.declared.worklist.End.{End}
 use Rattle.records.specs.Texts.{tallies_text}
-use Rattle.starts.specs.Sown.{sown_all, accepted_all}
+use Rattle.starts.specs.Sown.{given_starts, sown_all, accepted_all}
 use Rattle.table.specs.Told.{tallied}
 
 -- a portion of k cells settled
@@ -41,7 +41,7 @@ first_of h = newly_in h.points h.facts (replicate (h.points * h.facts * h.facts)
 
 -- the table with the default starts sown
 abbrev pub seeded : Handed → List Start → Tabled
-seeded h starts = sown_all h (take 255 starts) (first_of h)
+seeded h starts = sown_all h (given_starts starts) (first_of h)
 
 -- one portion more than there are cells is enough
 abbrev pub enough : Handed → ℕ
@@ -57,7 +57,7 @@ progress h starts k end = lines (enough h) h k end (seeded h starts) ++ cells_li
 
 -- those of the default starts that are accepted in a table newly opened, the latest first
 abbrev pub accepted_of : Handed → List Start → List (ℕ × ℕ)
-accepted_of h starts = accepted_all h (take 255 starts) (first_of h) []
+accepted_of h starts = accepted_all h (given_starts starts) (first_of h) []
 
 -- the last line tells how many cells are reached from these starts
 pub record EndsCounted (h : Handed) (starts : List (ℕ × ℕ)) (text : List ℕ) : Type 0 where

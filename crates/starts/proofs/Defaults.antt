@@ -1,5 +1,5 @@
 -- Starts that are in range are all accepted, and so are the default starts of a problem about the cells of a lawful program.
-use Rattle.std.proofs.Common.{◌≡◌, ℕ, zero, suc, ◌+◌, ◌<◌, ◌≤◌, Bool, true, false, List, [], ◌∷◌, length, take, Some, None, Option, sym, refl, ap, ◌∙◌, arith}
+use Rattle.std.proofs.Common.{◌≡◌, ℕ, zero, suc, ◌+◌, ◌<◌, ◌≤◌, Bool, true, false, List, [], ◌∷◌, length, Some, None, Option, sym, refl, ap, ◌∙◌, arith}
 use Rattle.std.proofs.lemmas.Bool.{cond-true, eq-eqb, lt-ltb}
 use Rattle.std.proofs.lemmas.List.{take_all}
 use Rattle.listing.proofs.Parts.{parts}
@@ -17,7 +17,7 @@ use Rattle.paths.specs.Does.{Handed, left_by}
 use Rattle.paths.specs.Handing.{posed}
 use Rattle.paths.specs.Machine.{both}
 use Rattle.paths.specs.Tabled.{Tabled, record_at, find_at, start_cell, sow}
-use Rattle.starts.specs.Sown.{start_no, sown_one, accepted_by, accepted_all, latest_first}
+use Rattle.starts.specs.Sown.{given_starts, start_no, sown_one, accepted_by, accepted_all, latest_first}
 
 -- sowing keeps the counts, so those of a table still fit after it
 pub record Fits (h : Handed) (t : Tabled) : Type 0 where
@@ -90,16 +90,17 @@ in_range : (choice : Choice) (m : Meaning) → 0 < procs m → InRange (posed ch
 in_range Unset m p = each_in_range (posed Unset m.globals m.locals m) 0 (facts_in m.globals m.locals) p (omega arith)
 in_range Raw m p = each_in_range (posed Raw m.globals m.locals m) 0 1 p (omega arith)
 
-most : (choice : Choice) (g l : ℕ) → g ≤ 31 → l ≤ 32 → length (starts_of choice g l) ≤ 255
+most : (choice : Choice) (g l : ℕ) → g ≤ 31 → l ≤ 32 → length (starts_of choice g l) ≤ 256
 most Unset g l a b = omega (arith, each_many 0 (facts_in g l))
 most Raw g l a b = omega arith
 
 -- of a lawful program every default start is accepted
 pub default_starts : (choice : Choice) (m : Meaning) → is_lawful m ≡ true → (t : Tabled) → t.points ≡ size m → t.facts ≡ facts_in m.globals m.locals
-    → accepted_all (posed choice m.globals m.locals m) (take 255 (starts_of choice m.globals m.locals)) t [] ≡ latest_first (starts_of choice m.globals m.locals) []
+    → accepted_all (posed choice m.globals m.locals m) (given_starts (starts_of choice m.globals m.locals)) t [] ≡ latest_first (starts_of choice m.globals m.locals) []
+unfolding given_starts
 default_starts choice m lawful t points facts =
     let h : Handed = posed choice m.globals m.locals m in
     let ss = starts_of choice m.globals m.locals in
     let l = parts m lawful in
-    ap (λ (xs : List Start). accepted_all h xs t []) (take_all 255 ss (most choice m.globals m.locals l.few_globals l.few_locals))
+    ap (λ (xs : List Start). accepted_all h xs t []) (take_all 256 ss (most choice m.globals m.locals l.few_globals l.few_locals))
     ∙ all_accepted h ss t [] (in_range choice m (some_procedure m lawful)) (record { points = points; facts = facts })

@@ -1,5 +1,5 @@
 -- One start after the other.
-use Rattle.std.proofs.Common.{◌≡◌, ℕ, zero, suc, ◌+◌, ◌<◌, List, [], ◌∷◌, take, drop, Some, None, Option, sym, refl, ap, ◌∙◌, subst, arith}
+use Rattle.std.proofs.Common.{◌≡◌, ℕ, zero, suc, ◌+◌, ◌<◌, ◌≤◌, List, [], ◌∷◌, take, drop, Some, None, Option, sym, refl, ap, ◌∙◌, subst, arith}
 use Rattle.std.proofs.lemmas.List.{drop_all, length-take}
 use Rattle.std.specs.List.{slice_get}
 use Rattle.flow.specs.declared.interface.Start.{Start}
@@ -9,7 +9,7 @@ use Rattle.paths.specs.Law.{accepted}
 use Rattle.paths.specs.Tabled.{Tabled, is_found, start_cell}
 use Rattle.paths.specs.Usage.{Standing}
 use Rattle.table.specs.Told.{CountsStay}
-use Rattle.starts.specs.Sown.{start_no, sown_all, accepted_by, accepted_all, Carries}
+use Rattle.starts.specs.Sown.{given_starts, start_no, sown_all, accepted_by, accepted_all, Carries}
 
 module _ (h : Handed) (s : Start) (t u : Tabled) (answer : Answer) (sows : Sows h s.procedure.0 s.fact.0 t answer u) where
   counted : (o : Option ℕ) (k : ℕ) (calls : List Call) → accepted (Sow h s.procedure.0 s.fact.0 (answer_by o k) ∷ calls) ≡ accepted_by o s (accepted calls)
@@ -27,9 +27,10 @@ module _ (h : Handed) (s : Start) (t u : Tabled) (answer : Answer) (sows : Sows 
         ∙ ap (accepted_by (start_no h s t) s) st.starts_are;
   }
 
--- what is left of the first k, by place
-pub front : (ss : List Start) (i k : ℕ) (s : Start) → i < k → Some s ≡ slice_get ss i → drop i (take k ss) ≡ s ∷ drop (i + 1) (take k ss)
-front ss i k s l e = drop_nth (take k ss) i s (in_front ss i k l ∙ sym e)
+-- the starts that are left to sow, by place
+pub front : (ss : List Start) (i : ℕ) (s : Start) → i < 256 → Some s ≡ slice_get ss i → drop i (given_starts ss) ≡ s ∷ drop (i + 1) (given_starts ss)
+unfolding given_starts
+front ss i s l e = drop_nth (given_starts ss) i s (in_front ss i 256 l ∙ sym e)
   where
     in_front : (ss : List Start) (i k : ℕ) → i < k → slice_get (take k ss) i ≡ slice_get ss i
     in_front ss i zero l = absurd (omega arith)
@@ -37,8 +38,15 @@ front ss i k s l e = drop_nth (take k ss) i s (in_front ss i k l ∙ sym e)
     in_front (x ∷ ss) zero (suc k) l = refl
     in_front (x ∷ ss) (suc i) (suc k) l = in_front ss i k (omega arith)
 
-pub spent : (ss : List Start) (i k : ℕ) → None ≡ slice_get ss i → drop i (take k ss) ≡ []
-spent ss i k e = drop_all i (take k ss) (let n = nth_none ss i (sym e) in let m = length-take k ss in omega arith)
+-- none is left past the last
+pub spent : (ss : List Start) (i : ℕ) → None ≡ slice_get ss i → drop i (given_starts ss) ≡ []
+unfolding given_starts
+spent ss i e = drop_all i (given_starts ss) (let n = nth_none ss i (sym e) in let m = length-take 256 ss in omega arith)
+
+-- nor past the number of those that can be given
+pub counted_out : (ss : List Start) (i : ℕ) → 256 ≤ i → drop i (given_starts ss) ≡ []
+unfolding given_starts
+counted_out ss i l = drop_all i (given_starts ss) (let m = length-take 256 ss in omega arith)
 
 -- while the starts ss are sown in a table: what those that are left make of it, and which starts a row of calls has accepted by then
 pub record Sowing (h : Handed) (ss : List Start) (first now : Tabled) (left : List Start) : Type 0 where

@@ -1,9 +1,13 @@
 -- What sowing some starts makes of a table.
-use Rattle.std.specs.Prelude.{ℕ, List, [], ◌∷◌, Some, None, Option}
+use Rattle.std.specs.Prelude.{ℕ, List, [], ◌∷◌, take, Some, None, Option}
 use Rattle.flow.specs.declared.interface.Start.{Start}
 use Rattle.paths.specs.Does.{Handed, Open, sow_no, left_by}
 use Rattle.paths.specs.Tabled.{Tabled, sow}
 use Rattle.paths.specs.Usage.{Standing}
+
+-- the default starts that a problem can give: it counts them in a byte
+unfoldable pub given_starts : List Start → List Start
+given_starts starts = take 256 starts
 
 -- the question to the sowing of a start that is answered no
 abbrev pub start_no : Handed → Start → Tabled → Option ℕ

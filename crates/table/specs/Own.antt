@@ -7,8 +7,8 @@ use Rattle.records.specs.declared.record.Record.{Record}
 use Rattle.table.specs.Records.{at}
 use Rattle.table.specs.State.{block_of}
 
--- in the memory of a table in the state t: the slot of a cell's record is the number of some cell; and the record of the number n × F + a has
--- the set of exactly the facts d whose cell (n, a, d) is found
+-- in the memory of a table in the state t: the slot of each cell's record is the number of some cell, and the record
+-- with the number n × F + a has the set of exactly the facts d whose cell (n, a, d) is found
 pub record OwnFields (t : Tabled) (rs : List Record) : Type 0 where
   pub slots : (c : ℕ) → c < t.points * t.facts * t.facts → (at rs c).slot < t.points * t.facts * t.facts
   pub sets : (n a d : ℕ) → n < t.points → a < t.facts
