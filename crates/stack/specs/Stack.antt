@@ -15,3 +15,7 @@ Pushed xs n x (Err _) ys = (length xs ≤ n) × (ys ≡ xs)
 abbrev pub Popped : {X : Type 0} → List X → ℕ → Option (X × ℕ) → Type 0
 Popped xs n (Some p) = (n ≡ p.1 + 1) × (held xs n ≡ p.0 ∷ held xs p.1)
 Popped xs n None = (n ≡ 0) ⊎ (length xs < n)
+
+-- the entries of a lent memory are free: there are as many as before, and nothing is said of what they are
+abbrev pub Free : {X : Type 0} → List X → List X → Type 0
+Free old new = length new ≡ length old

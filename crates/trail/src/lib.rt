@@ -3,6 +3,7 @@
 
 ghost use Rattle.std.specs.Prelude.{length};
 ghost use Rattle.paths.specs.Does.{Trails};
+ghost use Rattle.stack.specs.Stack.{Free};
 ghost use Rattle.table.specs.State.{state};
 ghost use Rattle.table.specs.Told.{number_given};
 ghost use Rattle.trail.specs.Trail.{ToldSo};
@@ -29,6 +30,7 @@ pub fn trail(
 ) -> Result<usize, Fault>
     ensures trails { Trails (state table.now) point.0 fact.0 words.old (length calls.old) (number_given result) words.new }
     ensures law { ToldSo (state table.now) point.0 fact.0 words.old (length calls.old) (number_given result) words.new }
+    ensures calls { Free calls.old calls.new }
 {
     spell(table, point, fact, words, calls)
 }

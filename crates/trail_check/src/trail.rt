@@ -3,6 +3,7 @@ ghost use Rattle.std.specs.Prelude.{◌≡◌, ◌+◌, ◌<◌, ◌≤◌, leng
 ghost use Rattle.paths.specs.Check.{move_on};
 ghost use Rattle.paths.specs.Checked.{lead, check_no, Verdict};
 ghost use Rattle.paths.specs.Handing.{handed_by};
+ghost use Rattle.stack.specs.Stack.{Free};
 ghost use Rattle.trail_check.specs.Handing.{told, open_in, Moved, stands};
 
 use crate::fault::Fault;
@@ -94,6 +95,7 @@ pub fn check_trail<P: Program, Q: Problem>(
 ) -> Result<(), Fault>
     ensures value { told result ≡ check_no (handed_by P.Program Q.Problem on.now) words.now (length calls.old) }
     ensures law { Verdict (handed_by P.Program Q.Problem on.now) words.now (length calls.old) (told result) }
+    ensures calls { Free calls.old calls.new }
 {
     first_stray(on, words, calls)
 }
