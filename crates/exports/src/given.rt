@@ -2,6 +2,7 @@
 ghost use Rattle.std.specs.Prelude.{◌≡◌, ◌*◌, IfSome, Ok};
 ghost use Rattle.listing.specs.Meaning.{size};
 ghost use Rattle.text.specs.Reading.{reading, meaning_of};
+ghost use Rattle.text.specs.Text.{bytes_of};
 ghost use Rattle.exports.specs.Counted.{Fits};
 ghost use Rattle.exports.specs.Rows.{rows_of};
 
@@ -14,7 +15,7 @@ use text::text::Text;
 // The program of a listing that is not refused.
 pub(crate) fn program_of<'a>(listing: &'a [u8]) -> Option<Text<'a>>
     ensures reads { IfSome result (λ _. reading listing.now ≡ Ok (meaning_of listing.now)) }
-    ensures holds { IfSome result (λ t. t.delivered.bytes.now ≡ listing.now) }
+    ensures holds { IfSome result (λ t. bytes_of t ≡ listing.now) }
 {
     let mut text = Text::shortest();
     text.read(listing).ok()?;

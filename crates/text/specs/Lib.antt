@@ -5,4 +5,5 @@ pub mod Reading
 pub mod Survey
 pub mod Cases
 pub mod Law
+pub mod Text
 pub mod Telling

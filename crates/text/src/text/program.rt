@@ -1,5 +1,6 @@
 // A text is a program: the file's bytes and the indexes tell what it means.
 ghost use Rattle.text.specs.Reading.{meaning_of};
+ghost use Rattle.text.specs.Text.{bytes_of, lawful_of};
 
 use crate::text::Text;
 use listing::counts::Counts;
@@ -8,9 +9,9 @@ use listing::program::Program;
 use listing::statement::Statement;
 
 impl Program for Text<'_> {
-    ghost meaning = { λ t. meaning_of t.delivered.bytes.now };
+    ghost meaning = { λ t. meaning_of (bytes_of t) };
 
-    ghost lawful = { λ t. t.lawful };
+    ghost lawful = { lawful_of };
 
     #[tactic(auto, using(crate::proofs::Lawful::as_long))]
     fn counts(&self) -> Counts {

@@ -4,6 +4,7 @@ ghost use Rattle.listing.specs.Meaning.{totals};
 ghost use Rattle.text.specs.Law.{ReadsByLaw};
 ghost use Rattle.text.specs.Cases.{listed};
 ghost use Rattle.text.specs.Reading.{on_line, meaning_of, refused, accepted, answered, reading};
+ghost use Rattle.text.specs.Text.{bytes_of};
 
 use crate::delivered::Delivered;
 use crate::text::Text;
@@ -26,7 +27,7 @@ fn at_line(breach: Breach) -> Refusal
 impl<'a> Text<'a> {
     // The shortest listing: what a caller holds before the first reading.
     pub fn shortest() -> Text<'a>
-        ensures { result.delivered.bytes.now ≡ listed (codes "cells 0 1" ∷ codes "ret l0" ∷ []) }
+        ensures { bytes_of result ≡ listed (codes "cells 0 1" ∷ codes "ret l0" ∷ []) }
     {
         Text::of(b"cells 0 1\nret l0\n").unwrap()
     }
@@ -34,7 +35,7 @@ impl<'a> Text<'a> {
     // Reads a file: its counts, and this text is then that file's, or the first no, and this text is as it was.
     pub fn read(&mut self, bytes: &'a [u8]) -> Result<Counts, Refusal>
         ensures value { result ≡ answered (refused bytes.now) (totals (meaning_of bytes.now)) }
-        ensures reads { MatchResult result (λ _. (reading bytes.now ≡ Ok (meaning_of bytes.now)) × (self.new.delivered.bytes.now ≡ bytes.now)) (λ e. (reading bytes.now ≡ Err e) × (self.new ≡ self.old)) }
+        ensures reads { MatchResult result (λ _. (reading bytes.now ≡ Ok (meaning_of bytes.now)) × (bytes_of self.new ≡ bytes.now)) (λ e. (reading bytes.now ≡ Err e) × (self.new ≡ self.old)) }
         ensures law { ReadsByLaw bytes.now result }
     {
         let text = Text::of(bytes)?;
@@ -45,7 +46,7 @@ impl<'a> Text<'a> {
 
     // The text of a file that no question refuses, or the first no.
     fn of(bytes: &'a [u8]) -> Result<Text<'a>, Refusal>
-        ensures { MatchResult result (λ text. text.delivered.bytes.now ≡ bytes.now) (λ e. refused bytes.now ≡ Some e) }
+        ensures { MatchResult result (λ text. bytes_of text ≡ bytes.now) (λ e. refused bytes.now ≡ Some e) }
     {
         let delivered = Delivered::of(bytes)?;
         let procedures = examine(&delivered).map_err(at_line)?;
