@@ -8,7 +8,7 @@ use Rattle.flow.specs.declared.choice.Choice.{Choice}
 use Rattle.paths.specs.Handing.{posed}
 use Rattle.starts.specs.Sown.{latest_first}
 use Rattle.text.specs.Reading.{reading}
-use Rattle.text.specs.Telling.{told_by, HoldsBy}
+use Rattle.telling.specs.Telling.{told_by, HoldsBy}
 use Rattle.explanation.specs.Explained.{explained, Explains}
 
 -- what is told of point n and fact d under a problem about g globals and l locals

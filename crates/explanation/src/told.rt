@@ -12,7 +12,8 @@ use flow::unset::Unset;
 use listing::program::Program;
 use paths::analysis::Analysis;
 use std::alloc::{AllocError, Global};
-use text::tell::{Describe, tell};
+use telling::Describe;
+use text::tell::tell_listing;
 
 // A pair under one of the problems.
 #[derive(Clone, Copy)]
@@ -21,7 +22,12 @@ pub struct Asked {
     pub pair: Pair,
 }
 
-fn explain_under<P: Program>(heap: Global, program: &P, asked: Asked) -> Result<String, AllocError>
+// Tells the trail of a pair over a program, however it is kept.
+pub fn explain_under<P: Program>(
+    heap: Global,
+    program: &P,
+    asked: Asked,
+) -> Result<String, AllocError>
     ensures text { IfOk result (λ s. string_bytes s ≡ chosen asked.choice (P.meaning program.now) asked.pair.point.0 asked.pair.fact.0) }
     ensures law { IfOk result (λ s. ChosenTells asked.choice (P.meaning program.now) asked.pair.point.0 asked.pair.fact.0 (string_bytes s)) }
 {
@@ -62,5 +68,5 @@ pub fn explain_listing(heap: Global, bytes: &[u8], asked: Asked) -> Result<Strin
     ensures law { IfOk result (λ s. ListingTells bytes.now asked.choice asked.pair.point.0 asked.pair.fact.0 (string_bytes s)) }
     ensures beside { OwnLines bytes.now }
 {
-    tell(heap, bytes, &asked)
+    tell_listing(heap, bytes, &asked)
 }

@@ -9,7 +9,7 @@ use Rattle.paths.specs.Law.{Reported}
 use Rattle.records.specs.declared.fault.Fault.{Fault}
 use Rattle.starts.specs.Sown.{latest_first}
 use Rattle.text.specs.Reading.{reading}
-use Rattle.text.specs.Telling.{told_by, HoldsBy}
+use Rattle.telling.specs.Telling.{told_by, HoldsBy}
 use Rattle.findings.specs.Told.{reported, problem_text}
 use Rattle.findings.specs.declared.room.Room.{Room}
 

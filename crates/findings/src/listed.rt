@@ -11,7 +11,8 @@ use flow::unset::Unset;
 use listing::program::Program;
 use paths::analysis::Analysis;
 use std::alloc::{AllocError, Global};
-use text::tell::{Describe, tell};
+use telling::Describe;
+use text::tell::tell_listing;
 
 // The reports of both problems about the cells of a program, one after the other.
 fn report_both<P: Program>(heap: Global, program: &P, room: Room) -> Result<String, AllocError>
@@ -65,7 +66,7 @@ pub fn report_listing(heap: Global, bytes: &[u8], room: Room) -> Result<String, 
     ensures text { IfOk result (λ s. string_bytes s ≡ told_of bytes.now room) }
     ensures law { IfOk result (λ s. ListingTold bytes.now room (string_bytes s)) }
 {
-    tell(heap, bytes, &Reports { room })
+    tell_listing(heap, bytes, &Reports { room })
 }
 
 // The sheet of a listing: the same, in the room of a sheet.

@@ -9,7 +9,7 @@ use Rattle.listing.specs.declared.statement.Statement.{Statement}
 use Rattle.listing.specs.declared.statement.Statement.TheVariants.{Set, Move, Add, Read, Send, Goto, Test, Call, Ret, Trim}
 use Rattle.draft.specs.declared.question.Refusal.{Refusal}
 use Rattle.text.specs.Reading.{reading}
-use Rattle.text.specs.Telling.{told_by}
+use Rattle.telling.specs.Telling.{told_by}
 use Rattle.overview.specs.declared.section.Section.{Section}
 
 -- there is a `call`

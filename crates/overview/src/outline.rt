@@ -8,7 +8,8 @@ use listing::numbers::Proc;
 use listing::program::Program;
 use std::alloc::{AllocError, Global};
 use std::fmt::Write;
-use text::tell::{Describe, tell};
+use telling::Describe;
+use text::tell::tell_listing;
 
 // The counts of a program, in words.
 fn heading(heap: Global, counts: Counts) -> Result<String, AllocError>
@@ -25,22 +26,30 @@ fn heading(heap: Global, counts: Counts) -> Result<String, AllocError>
     )
 }
 
-// The counts of a program, and a line for each procedure.
-struct Description;
+// The outline of a program: its counts, and a line for each procedure.
+pub fn outline_of<P: Program>(heap: Global, program: &P) -> Result<String, AllocError>
+    ensures { IfOk result (λ s. string_bytes s ≡ described (P.meaning program.now)) }
+{
+    let counts = program.counts();
+    let mut out = heading(heap, counts)?;
+    out.push('\n')?;
+    for procedure in 0..counts.procedures {
+        if let Some(section) = section_of(program, Proc(procedure)) {
+            writeln!(out, "{section}")?;
+        }
+    }
+    Ok(out)
+}
+
+// The outline, as a description.
+#[derive(Clone, Copy)]
+pub struct Description;
 
 impl Describe for Description {
     ghost text = { λ _ m. described m };
 
     fn describe<P: Program>(&self, heap: Global, program: &P) -> Result<String, AllocError> {
-        let counts = program.counts();
-        let mut out = heading(heap, counts)?;
-        out.push('\n')?;
-        for procedure in 0..counts.procedures {
-            if let Some(section) = section_of(program, Proc(procedure)) {
-                writeln!(out, "{section}")?;
-            }
-        }
-        Ok(out)
+        outline_of(heap, program)
     }
 }
 
@@ -48,5 +57,5 @@ impl Describe for Description {
 pub fn outline(heap: Global, bytes: &[u8]) -> Result<String, AllocError>
     ensures { IfOk result (λ s. string_bytes s ≡ outlined bytes.now) }
 {
-    tell(heap, bytes, &Description)
+    tell_listing(heap, bytes, &Description)
 }

@@ -7,7 +7,7 @@ use Rattle.flow.specs.declared.choice.Choice.{Choice}
 use Rattle.paths.specs.Handing.{posed}
 use Rattle.paths.specs.declared.worklist.End.{End}
 use Rattle.text.specs.Reading.{reading}
-use Rattle.text.specs.Telling.{told_by, HoldsBy}
+use Rattle.telling.specs.Telling.{told_by, HoldsBy}
 use Rattle.starts.specs.Sown.{latest_first}
 use Rattle.progress.specs.Progress.{progress, EndsCounted}
 

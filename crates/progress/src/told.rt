@@ -11,7 +11,8 @@ use flow::unset::Unset;
 use listing::program::Program;
 use paths::analysis::Analysis;
 use std::alloc::{AllocError, Global};
-use text::tell::{Describe, tell};
+use telling::Describe;
+use text::tell::tell_listing;
 
 // A tabulation in portions, under one of the problems.
 #[derive(Clone, Copy)]
@@ -20,7 +21,8 @@ pub struct Tabulation {
     pub pace: Pace,
 }
 
-fn tabulate_under<P: Program>(
+// Tabulates a program in portions, however it is kept.
+pub fn tabulate_under<P: Program>(
     heap: Global,
     program: &P,
     tabulation: Tabulation,
@@ -66,5 +68,5 @@ pub fn tabulate_listing(
     ensures text { IfOk result (λ s. string_bytes s ≡ told_of bytes.now tabulation.choice tabulation.pace.portion.size tabulation.pace.from) }
     ensures law { IfOk result (λ s. ListingCounted bytes.now tabulation.choice (string_bytes s)) }
 {
-    tell(heap, bytes, &tabulation)
+    tell_listing(heap, bytes, &tabulation)
 }

@@ -8,7 +8,7 @@ use Rattle.flow.specs.declared.choice.Choice.{Choice}
 use Rattle.paths.specs.Does.{handed}
 use Rattle.paths.specs.Checked.{check_no}
 use Rattle.text.specs.Reading.{reading}
-use Rattle.text.specs.Telling.{told_by}
+use Rattle.telling.specs.Telling.{told_by}
 use Rattle.review.specs.Reviewed.{reviewed}
 
 -- what is told of a trail under a problem about g globals and l locals

@@ -10,9 +10,11 @@ use flow::unset::Unset;
 use listing::program::Program;
 use paths::analysis::Analysis;
 use std::alloc::{AllocError, Global};
-use text::tell::{Describe, tell};
+use telling::Describe;
+use text::tell::tell_listing;
 
-fn review_under<P: Program>(
+// Tells a trail over a program, however it is kept.
+pub fn review_under<P: Program>(
     heap: Global,
     program: &P,
     choice: Choice,
@@ -40,9 +42,9 @@ fn review_under<P: Program>(
 
 // A trail in words, under one of the problems.
 #[derive(Clone, Copy)]
-struct Trail<'a> {
-    choice: Choice,
-    words: &'a [u32],
+pub struct Trail<'a> {
+    pub choice: Choice,
+    pub words: &'a [u32],
 }
 
 impl Describe for Trail<'_> {
@@ -62,5 +64,5 @@ pub fn review_listing(
 ) -> Result<String, AllocError>
     ensures { IfOk result (λ s. string_bytes s ≡ told_of bytes.now choice words.now) }
 {
-    tell(heap, bytes, &Trail { choice, words })
+    tell_listing(heap, bytes, &Trail { choice, words })
 }

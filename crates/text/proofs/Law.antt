@@ -234,7 +234,7 @@ module _ (t : List ℕ) where
   Before k = (q : Question) → number_of q < k → Yes t q
 
   -- what the law says of a refusal, or of none
-  abbrev Outcome : Option Refusal → Type 0
+  abbrev pub Outcome : Option Refusal → Type 0
   Outcome None = (q : Question) → Yes t q
   Outcome (Some r) = FirstNo t r
 
@@ -264,7 +264,7 @@ module _ (t : List ℕ) where
   by_failing q test is m h =
       record { fails = is (m + 2) ∙ failing_fails test (flow_of t) m h; least = λ j l. is j ∙ failing_before test (flow_of t) m h j l }
 
-  pub outcome : Outcome (refused t)
+  outcome : Outcome (refused t)
   unfolding outsized unranged miscounted astray missing
   outcome =
       next_law Size (outsized t) _ (λ q l. absurd (none_below q l)) (only_yes 0 _) (λ j h. record { fails = only_fails 0 _ j h; least = only_least 0 _ j h })
@@ -278,10 +278,6 @@ module _ (t : List ℕ) where
       (λ b8. else_law Callees (missing (flow_of t)) _ b8 (failing_yes (exists (rets (flow_of t))) (flow_of t)) (by_failing Callees (exists (rets (flow_of t))) (λ j. refl))
       (λ b9 q. b9 q (all_below q))))))))))
 
--- what reading answers keeps the law
-pub by_law : {A : Type 0} (t : List ℕ) (x : A) → ReadsByLaw t (answered (refused t) x)
-by_law t x = go (refused t) (outcome t)
-  where
-    go : (o : Option Refusal) → Outcome t o → ReadsByLaw t (answered o x)
-    go None h = h
-    go (Some r) h = h
+-- what was found of the questions is what their law says
+pub as_found : (t : List ℕ) (o : Option Refusal) → refused t ≡ o → Outcome t o
+as_found t o e = subst (Outcome t) e (outcome t)

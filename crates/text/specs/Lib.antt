@@ -6,4 +6,3 @@ pub mod Survey
 pub mod Cases
 pub mod Law
 pub mod Text
-pub mod Telling

@@ -3,7 +3,7 @@ use Rattle.std.specs.Io.KnownBytes.{Appends}
 use Rattle.findings.specs.Rooms.{sheet_room}
 use Rattle.findings.specs.Listed.{told_of, both_told}
 use Rattle.text.specs.Reading.{reading}
-use Rattle.text.specs.Telling.{told_by}
+use Rattle.telling.specs.Telling.{told_by}
 use Rattle.sheet.proofs.run.Goals as goal
 
 -- what is told of a listing that is taken is told of the whole

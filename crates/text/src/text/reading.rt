@@ -32,21 +32,10 @@ impl<'a> Text<'a> {
         Text::of(b"cells 0 1\nret l0\n").unwrap()
     }
 
-    // Reads a file: its counts, and this text is then that file's, or the first no, and this text is as it was.
-    pub fn read(&mut self, bytes: &'a [u8]) -> Result<Counts, Refusal>
-        ensures value { result ≡ answered (refused bytes.now) (totals (meaning_of bytes.now)) }
-        ensures reads { MatchResult result (λ _. (reading bytes.now ≡ Ok (meaning_of bytes.now)) × (bytes_of self.new ≡ bytes.now)) (λ e. (reading bytes.now ≡ Err e) × (self.new ≡ self.old)) }
+    // Reads a file: its text, or the first no.
+    pub fn of(bytes: &'a [u8]) -> Result<Text<'a>, Refusal>
+        ensures reads { MatchResult result (λ text. (reading bytes.now ≡ Ok (meaning_of bytes.now)) × (bytes_of text ≡ bytes.now)) (λ e. reading bytes.now ≡ Err e) }
         ensures law { ReadsByLaw bytes.now result }
-    {
-        let text = Text::of(bytes)?;
-        let counts = text.counts();
-        *self = text;
-        Ok(counts)
-    }
-
-    // The text of a file that no question refuses, or the first no.
-    fn of(bytes: &'a [u8]) -> Result<Text<'a>, Refusal>
-        ensures { MatchResult result (λ text. bytes_of text ≡ bytes.now) (λ e. refused bytes.now ≡ Some e) }
     {
         let delivered = Delivered::of(bytes)?;
         let procedures = examine(&delivered).map_err(at_line)?;
@@ -56,5 +45,17 @@ impl<'a> Text<'a> {
             procedures,
             callers,
         })
+    }
+
+    // Reads a file over this text: its counts, and this text is then that file's, or the first no, and this text is as it was.
+    pub fn read(&mut self, bytes: &'a [u8]) -> Result<Counts, Refusal>
+        ensures value { result ≡ answered (refused bytes.now) (totals (meaning_of bytes.now)) }
+        ensures reads { MatchResult result (λ _. (reading bytes.now ≡ Ok (meaning_of bytes.now)) × (bytes_of self.new ≡ bytes.now)) (λ e. (reading bytes.now ≡ Err e) × (self.new ≡ self.old)) }
+        ensures law { ReadsByLaw bytes.now result }
+    {
+        let text = Text::of(bytes)?;
+        let counts = text.counts();
+        *self = text;
+        Ok(counts)
     }
 }

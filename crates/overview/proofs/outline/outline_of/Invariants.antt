@@ -1,7 +1,7 @@
 use Rattle.std.proofs.Common.{◌≡◌, [], ◌∷◌, ◌++◌, string_bytes}
 use Rattle.listing.specs.Meaning.{totals}
 use Rattle.overview.specs.Outlined.{heading_text, sections}
-use Rattle.overview.proofs.outline.DescriptionDescribe.describe.Given as goal
+use Rattle.overview.proofs.outline.outline_of.Given as goal
 
 abbrev pub invariant-loop-procedure : goal.invariant-loop-procedure
 invariant-loop-procedure g l =

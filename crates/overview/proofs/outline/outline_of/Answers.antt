@@ -2,8 +2,8 @@ use Rattle.std.proofs.Common.{[], ◌∷◌, ◌++◌, string_bytes, ap, ◌∙�
 use Rattle.listing.specs.Meaning.{totals}
 use Rattle.overview.specs.Outlined.{heading_text}
 use Rattle.overview.proofs.Sections.{line_more, some_line}
-use Rattle.overview.proofs.outline.DescriptionDescribe.describe.Goals as goal
-use Rattle.overview.proofs.outline.DescriptionDescribe.describe.Goals.{in-Some+in_ok-writeln, in_default}
+use Rattle.overview.proofs.outline.outline_of.Goals as goal
+use Rattle.overview.proofs.outline.outline_of.Goals.{in-Some+in_ok-writeln, in_default}
 
 pub loop-procedure-preserved : goal.loop-procedure-preserved
 loop-procedure-preserved g c =
