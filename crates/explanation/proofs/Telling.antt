@@ -4,7 +4,6 @@ use Rattle.std.proofs.lemmas.Fmt.{decimal_injective}
 use Rattle.std.proofs.lemmas.List.{append_cancel_left, append_cancel_right, take_at}
 use Rattle.listing.specs.Refusals.{refused_text}
 use Rattle.listing.specs.Meaning.{Meaning}
-use Rattle.listing.specs.declared.numbers.Cell.{Cell}
 use Rattle.moves.specs.Names.{kind_text}
 use Rattle.moves.specs.Words.{decode}
 use Rattle.moves.specs.declared.moves.Kind.{Kind}
@@ -37,9 +36,9 @@ no_refusal Past a b c d e = omega (arith, e)
 no_refusal Call a b c d e = omega (arith, e)
 no_refusal Return a b c d e = omega (arith, e)
 
-no_path : (m : Meaning) (stands : ℕ → Option Cell) (ws : List Move) (q : ℕ) → path_text m stands ws ≡ refused_line q → ⊥
-no_path m stands [] q e = let z : ◌≡◌ {A = ℕ} 0 114 = ap (λ (xs : List ℕ). get_or xs 0 0) e in omega (arith, z)
-no_path m stands (w ∷ ws) q e = no_refusal w.kind _ _ _ _ (ap (λ (xs : List ℕ). get_or xs 2 0) e)
+no_path : (m : Meaning) (facts : ℕ → List ℕ) (ws : List Move) (q : ℕ) → path_text m facts ws ≡ refused_line q → ⊥
+no_path m facts [] q e = let z : ◌≡◌ {A = ℕ} 0 114 = ap (λ (xs : List ℕ). get_or xs 0 0) e in omega (arith, z)
+no_path m facts (w ∷ ws) q e = no_refusal w.kind _ _ _ _ (ap (λ (xs : List ℕ). get_or xs 2 0) e)
 
 same_number : (p q : ℕ) → p < 2 ^ 64 → q < 2 ^ 64 → refused_line p ≡ refused_line q → p ≡ q
 same_number p q l k e =
@@ -48,29 +47,29 @@ same_number p q l k e =
     decimal_injective p q l k (append_cancel_right (decimal p) (decimal q) (codes " at " ++ decimal 0) rest)
 
 -- of the refusals only 15 says that a pair is not reached
-explains : (h : Handed) (starts : List (ℕ × ℕ)) (m : Meaning) (stands : ℕ → Option Cell) (n d : ℕ) (text : List ℕ)
-    → Tells h starts m stands n d text → Explains h starts m stands n d text
-explains h starts m stands n d text tells = record { tells = tells; unreached = go tells }
+explains : (h : Handed) (starts : List (ℕ × ℕ)) (m : Meaning) (facts : ℕ → List ℕ) (n d : ℕ) (text : List ℕ)
+    → Tells h starts m facts n d text → Explains h starts m facts n d text
+explains h starts m facts n d text tells = record { tells = tells; unreached = go tells }
   where
-    go : Tells h starts m stands n d text → text ≡ refused_line 15 → Reached h starts n d → ⊥
-    go (explained.of_path moves path is) e r = no_path m stands (reverse moves) 15 (sym is ∙ e)
+    go : Tells h starts m facts n d text → text ≡ refused_line 15 → Reached h starts n d → ⊥
+    go (explained.of_path moves path is) e r = no_path m facts (reverse moves) 15 (sym is ∙ e)
     go (explained.out_of_range f is) e r = let z : ◌≡◌ {A = ℕ} 13 15 = same_number 13 15 (omega arith) (omega arith) (sym is ∙ e) in omega (arith, z)
     go (explained.not_reached f is) e r = f r
     go (explained.no_fit f is) e r = let z : ◌≡◌ {A = ℕ} 17 15 = same_number 17 15 (omega arith) (omega arith) (sym is ∙ e) in omega (arith, z)
 
-module _ (m : Meaning) (stands : ℕ → Option Cell) where
+module _ (m : Meaning) (facts : ℕ → List ℕ) where
   given_by : (turn : Turn) (memory memory' : List ℕ) (k : ℕ) → gives k ≡ trail_answer turn → memory' ≡ memory_by turn 0 memory
-      → path_text m stands (moves_of (take k memory')) ≡ turn_text m stands turn
+      → path_text m facts (moves_of (take k memory')) ≡ turn_text m facts turn
   given_by (no q) memory memory' k a h = let z : ◌≡◌ {A = ℕ} 0 1 = cc in absurd (omega arith)
   given_by nothing_left memory memory' k a h =
       let none : k ≡ 0 = cc in
-      ap (λ (j : ℕ). path_text m stands (moves_of (take j memory'))) none
+      ap (λ (j : ℕ). path_text m facts (moves_of (take j memory'))) none
   given_by (writes new) memory memory' k a h =
       let count : k ≡ length new = cc in
-      ap (λ (ws : List ℕ). path_text m stands (moves_of ws))
+      ap (λ (ws : List ℕ). path_text m facts (moves_of ws))
       (ap (λ (ws : List ℕ). take k ws) h ∙ take_at new (drop (0 + length new) memory) k (sym count))
 
-  refused_by : (turn : Turn) (q : ℕ) → refuses q ≡ trail_answer turn → refused_line q ≡ turn_text m stands turn
+  refused_by : (turn : Turn) (q : ℕ) → refuses q ≡ trail_answer turn → refused_line q ≡ turn_text m facts turn
   refused_by (no p) q a = let same : q ≡ p = cc in ap refused_line same
   refused_by nothing_left q a = let z : ◌≡◌ {A = ℕ} 0 1 = cc in absurd (omega arith)
   refused_by (writes new) q a = let z : ◌≡◌ {A = ℕ} 0 1 = cc in absurd (omega arith)
@@ -78,18 +77,18 @@ module _ (m : Meaning) (stands : ℕ → Option Cell) where
   module _ (t : Tabled) (n d : ℕ) (size : ℕ) where
     -- the words that are written are those of the text
     pub told_given : (k : ℕ) (memory memory' : List ℕ) → memory ≡ memory_of room → size ≡ room → Trails t n d memory size (gives k) memory'
-        → path_text m stands (moves_of (take k memory')) ≡ turn_text m stands (trail_turn t n d (memory_of room) room)
+        → path_text m facts (moves_of (take k memory')) ≡ turn_text m facts (trail_turn t n d (memory_of room) room)
     told_given k memory memory' first many does =
         given_by (trail_turn t n d memory size) memory memory' k does.answers does.holds
-        ∙ ap (λ (ws : List ℕ). turn_text m stands (trail_turn t n d ws size)) first
-        ∙ ap (λ (j : ℕ). turn_text m stands (trail_turn t n d (memory_of room) j)) many
+        ∙ ap (λ (ws : List ℕ). turn_text m facts (trail_turn t n d ws size)) first
+        ∙ ap (λ (j : ℕ). turn_text m facts (trail_turn t n d (memory_of room) j)) many
 
     pub told_refused : (q : ℕ) (memory memory' : List ℕ) → memory ≡ memory_of room → size ≡ room → Trails t n d memory size (refuses q) memory'
-        → refused_line q ≡ turn_text m stands (trail_turn t n d (memory_of room) room)
+        → refused_line q ≡ turn_text m facts (trail_turn t n d (memory_of room) room)
     told_refused q memory memory' first many does =
         refused_by (trail_turn t n d memory size) q does.answers
-        ∙ ap (λ (ws : List ℕ). turn_text m stands (trail_turn t n d ws size)) first
-        ∙ ap (λ (j : ℕ). turn_text m stands (trail_turn t n d (memory_of room) j)) many
+        ∙ ap (λ (ws : List ℕ). turn_text m facts (trail_turn t n d ws size)) first
+        ∙ ap (λ (j : ℕ). turn_text m facts (trail_turn t n d (memory_of room) j)) many
 
     module _ (h : Handed) (starts : List (ℕ × ℕ)) (led : Led h starts (Closed t)) where
       told : (answer : Answer) (memory memory' : List ℕ) → memory ≡ memory_of room → size ≡ room → Trails t n d memory size answer memory'
@@ -100,18 +99,18 @@ module _ (m : Meaning) (stands : ℕ → Option Cell) where
           (led.usage.trailed starts t n d size answer memory memory' led.stands does))
 
       pub path_told : (k : ℕ) (memory memory' text : List ℕ) → memory ≡ memory_of room → size ≡ room → Trails t n d memory size (gives k) memory'
-          → text ≡ path_text m stands (moves_of (take k memory')) → Explains h starts m stands n d text
+          → text ≡ path_text m facts (moves_of (take k memory')) → Explains h starts m facts n d text
       path_told k memory memory' text first many does is =
           let s : Shown h starts n d k (memory_of room) room memory' = told (gives k) memory memory' first many does in
-          explains h starts m stands n d text (explained.of_path s.moves s.path
-          (is ∙ ap (path_text m stands) (collected decode (take k memory') (reverse s.moves) s.read_back)))
+          explains h starts m facts n d text (explained.of_path s.moves s.path
+          (is ∙ ap (path_text m facts) (collected decode (take k memory') (reverse s.moves) s.read_back)))
 
-      by_reason : (q : ℕ) (text : List ℕ) → text ≡ refused_line q → Refusal h starts n d (memory_of room) room q → Tells h starts m stands n d text
+      by_reason : (q : ℕ) (text : List ℕ) → text ≡ refused_line q → Refusal h starts n d (memory_of room) room q → Tells h starts m facts n d text
       by_reason q text is (out_of_range f) = explained.out_of_range f is
       by_reason q text is (not_reached f) = explained.not_reached f is
       by_reason q text is (no_fit f) = explained.no_fit f is
 
       pub no_told : (q : ℕ) (memory memory' text : List ℕ) → memory ≡ memory_of room → size ≡ room → Trails t n d memory size (refuses q) memory'
-          → text ≡ refused_line q → Explains h starts m stands n d text
+          → text ≡ refused_line q → Explains h starts m facts n d text
       no_told q memory memory' text first many does is =
-          explains h starts m stands n d text (by_reason q text is (told (refuses q) memory memory' first many does).0)
+          explains h starts m facts n d text (by_reason q text is (told (refuses q) memory memory' first many does).0)

@@ -1,6 +1,7 @@
 // The trail of a pair, over a problem tabulated from its default starts.
 ghost use Rattle.std.specs.Prelude.{◌≡◌, IfOk, string_bytes, length, replicate};
 ghost use Rattle.findings.specs.Outcome.{Settled};
+ghost use Rattle.move_text.specs.Lines.{facts_text};
 ghost use Rattle.paths.specs.Handing.{handed_by};
 ghost use Rattle.records.specs.Blank.{blank};
 ghost use Rattle.records.specs.Faults.{number_of};
@@ -10,7 +11,7 @@ ghost use Rattle.explanation.specs.Explained.{records_of, accepted_of, room, mem
 use crate::lines::trail_lines;
 use findings::fill::settle_all;
 use flow::interface::Problem;
-use listing::numbers::{Cell, Fact, Point};
+use listing::numbers::{Fact, Point};
 use listing::program::Program;
 use paths::analysis::Analysis;
 use records::fault::Fault;
@@ -60,15 +61,15 @@ fn refusal_line(heap: Global, fault: Fault) -> Result<String, AllocError>
 }
 
 // Tells the trail of a pair over a settled table.
-fn tell_trail<P: Program, Q: Problem<Item = Cell>>(
+fn tell_trail<P: Program, Q: Problem>(
     heap: Global,
     on: &Analysis<P, Q>,
     table: &ClosedTable,
     pair: Pair,
 ) -> Result<String, AllocError>
     requires { let h = handed_by P.Program Q.Problem on.now in Settled h (Q.starts on.now.problem.now) (records_of h) (state table.now) }
-    ensures text { IfOk result (λ s. string_bytes s ≡ explained (handed_by P.Program Q.Problem on.now) (Q.starts on.now.problem.now) (P.meaning on.now.program.now) (Q.stands on.now.problem.now) pair.point.0 pair.fact.0) }
-    ensures law { IfOk result (λ s. let h = handed_by P.Program Q.Problem on.now in Explains h (accepted_of h (Q.starts on.now.problem.now)) (P.meaning on.now.program.now) (Q.stands on.now.problem.now) pair.point.0 pair.fact.0 (string_bytes s)) }
+    ensures text { IfOk result (λ s. string_bytes s ≡ explained (handed_by P.Program Q.Problem on.now) (Q.starts on.now.problem.now) (P.meaning on.now.program.now) (facts_text Q.Item.text (Q.stands on.now.problem.now)) pair.point.0 pair.fact.0) }
+    ensures law { IfOk result (λ s. let h = handed_by P.Program Q.Problem on.now in Explains h (accepted_of h (Q.starts on.now.problem.now)) (P.meaning on.now.program.now) (facts_text Q.Item.text (Q.stands on.now.problem.now)) pair.point.0 pair.fact.0 (string_bytes s)) }
 {
     let mut words = blank_words(heap)?;
     let mut calls = Record::blanks(heap, ROOM)?;
@@ -89,13 +90,13 @@ fn tell_trail<P: Program, Q: Problem<Item = Cell>>(
 
 // Tabulates a problem over a program from its default starts, and tells the trail of a pair, move by move with the statement where each
 // arrives, or why there is none.
-pub fn explain<P: Program, Q: Problem<Item = Cell>>(
+pub fn explain<P: Program, Q: Problem>(
     heap: Global,
     on: &Analysis<P, Q>,
     pair: Pair,
 ) -> Result<String, AllocError>
-    ensures text { IfOk result (λ s. string_bytes s ≡ explained (handed_by P.Program Q.Problem on.now) (Q.starts on.now.problem.now) (P.meaning on.now.program.now) (Q.stands on.now.problem.now) pair.point.0 pair.fact.0) }
-    ensures law { IfOk result (λ s. let h = handed_by P.Program Q.Problem on.now in Explains h (accepted_of h (Q.starts on.now.problem.now)) (P.meaning on.now.program.now) (Q.stands on.now.problem.now) pair.point.0 pair.fact.0 (string_bytes s)) }
+    ensures text { IfOk result (λ s. string_bytes s ≡ explained (handed_by P.Program Q.Problem on.now) (Q.starts on.now.problem.now) (P.meaning on.now.program.now) (facts_text Q.Item.text (Q.stands on.now.problem.now)) pair.point.0 pair.fact.0) }
+    ensures law { IfOk result (λ s. let h = handed_by P.Program Q.Problem on.now in Explains h (accepted_of h (Q.starts on.now.problem.now)) (P.meaning on.now.program.now) (facts_text Q.Item.text (Q.stands on.now.problem.now)) pair.point.0 pair.fact.0 (string_bytes s)) }
 {
     let table = settled(heap, on)?;
     tell_trail(heap, on, &table, pair)

@@ -7,6 +7,7 @@ ghost use Rattle.flow.specs.Relation.{Rule, Few, Within, KeepsZero};
 
 use crate::edge::Edge;
 use crate::gathering::facts_where;
+use crate::worded::Worded;
 use fact_set::FactSet;
 use listing::numbers::{Fact, Proc};
 
@@ -20,8 +21,8 @@ pub struct Start {
 // Any relation between facts from 0 to F - 1 over the edges that there are. Who writes a problem says F, the relation, what a fact stands for and
 // the default starts; the sets of facts have a body here, for a problem that has no shorter way to them.
 pub trait Problem {
-    // what a fact's number stands for
-    type Item;
+    // what a fact's number stands for: it tells itself in words
+    type Item: Worded + Drop;
 
     // the problem's own number
     const NUMBER: u8;

@@ -11,3 +11,4 @@ pub mod origin;
 pub mod raw;
 pub mod rule;
 pub mod unset;
+pub mod worded;

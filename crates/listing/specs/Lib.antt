@@ -5,3 +5,4 @@ pub mod Callers
 pub mod Lawful
 pub mod Faults
 pub mod Refusals
+pub mod Texts

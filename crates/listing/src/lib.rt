@@ -8,3 +8,4 @@ pub mod numbers;
 pub mod program;
 pub mod refused;
 pub mod statement;
+mod texts;

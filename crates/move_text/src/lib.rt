@@ -4,37 +4,37 @@
 ghost use Rattle.std.specs.Prelude.{◌≡◌, ◌-◌, ◌^◌, min, Some};
 ghost use Rattle.move_text.specs.Lines.{item_text, line_text, opened};
 
-use listing::numbers::Cell;
+use flow::worded::Worded;
 use moves::moves::{Kind, Move};
 use std::fmt;
 
-// What a fact of cells stands for. An option of a cell has no `Display` to give it, hence the struct.
-#[derive(Clone, Copy)]
-pub struct Item {
-    pub cell: Option<Cell>,
+// What a fact stands for, if anything. An option has no `Display` to give it, hence the struct.
+#[derive(Drop)]
+pub struct Item<I> {
+    pub stands_for: Option<I>,
 }
 
-impl fmt::Display for Item {
-    ghost output = { λ i. Some (item_text i.cell) };
+impl<I: Worded> fmt::Display for Item<I> {
+    ghost output = { λ i. Some (item_text I.text i.stands_for) };
 
     fn fmt<W: fmt::Write>(&self, f: &mut fmt::Formatter<W>) -> fmt::Result {
-        match self.cell {
-            Some(cell) => write!(f, "cell {}", cell.0),
+        match &self.stands_for {
+            Some(item) => write!(f, "{item}"),
             None => write!(f, "zero"),
         }
     }
 }
 
 // A move, what its fact stands for, and how many calls are open after it.
-#[derive(Clone, Copy)]
-pub struct MoveLine {
+#[derive(Drop)]
+pub struct MoveLine<I> {
     pub arriving: Move,
-    pub item: Item,
+    pub item: Item<I>,
     pub height: usize,
 }
 
-impl fmt::Display for MoveLine {
-    ghost output = { λ l. Some (line_text l) };
+impl<I: Worded> fmt::Display for MoveLine<I> {
+    ghost output = { λ l. Some (line_text I.text l) };
 
     fn fmt<W: fmt::Write>(&self, f: &mut fmt::Formatter<W>) -> fmt::Result {
         let Move { kind, point, fact } = self.arriving;

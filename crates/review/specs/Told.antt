@@ -1,6 +1,7 @@
 -- What is told of a trail over a listing, byte for byte.
 use Rattle.std.specs.Prelude.{ℕ, List, length, Result}
 use Rattle.listing.specs.Meaning.{Meaning}
+use Rattle.listing.specs.Texts.{cell_text}
 use Rattle.draft.specs.declared.question.Refusal.{Refusal}
 use Rattle.flow.specs.CellFacts.{facts_in, spoken_in}
 pub use Rattle.flow.specs.Choices.{rule_of}
@@ -9,11 +10,12 @@ use Rattle.paths.specs.Does.{handed}
 use Rattle.paths.specs.Checked.{check_no}
 use Rattle.text.specs.Reading.{reading}
 use Rattle.telling.specs.Telling.{told_by}
+use Rattle.move_text.specs.Lines.{facts_text}
 use Rattle.review.specs.Reviewed.{reviewed}
 
 -- what is told of a trail under a problem about g globals and l locals
 abbrev pub told_in : Choice → ℕ → ℕ → Meaning → List ℕ → List ℕ
-told_in choice g l m xs = reviewed (spoken_in g l) xs (check_no (handed m (rule_of choice g l) (facts_in g l)) xs (length xs))
+told_in choice g l m xs = reviewed (facts_text cell_text (spoken_in g l)) xs (check_no (handed m (rule_of choice g l) (facts_in g l)) xs (length xs))
 
 -- the same under a problem about the program's own cells
 abbrev pub chosen : Choice → Meaning → List ℕ → List ℕ

@@ -1,12 +1,13 @@
 // A whole trail in words.
 ghost use Rattle.std.specs.Prelude.{◌≡◌, length, take, IfOk, string_bytes};
+ghost use Rattle.move_text.specs.Lines.{facts_text};
 ghost use Rattle.paths.specs.Handing.{handed_by};
 ghost use Rattle.trail_check.specs.Handing.{told};
 ghost use Rattle.paths.specs.Checked.{check_no};
 ghost use Rattle.review.specs.Reviewed.{lines_of, lawful_words, reviewed};
 
 use flow::interface::Problem;
-use listing::numbers::{Cell, Point};
+use listing::numbers::Point;
 use listing::program::Program;
 use move_text::{Item, MoveLine, open_after};
 use moves::moves::Move;
@@ -16,12 +17,12 @@ use trail_check::fault::Fault;
 use trail_check::trail::check_trail;
 
 // The lines of words, up to the first that is no move's.
-fn move_lines<Q: Problem<Item = Cell>>(
+fn move_lines<Q: Problem>(
     heap: Global,
     problem: &Q,
     words: &[u32],
 ) -> Result<String, AllocError>
-    ensures { IfOk result (λ s. string_bytes s ≡ lines_of (Q.stands problem.now) 0 words.now) }
+    ensures { IfOk result (λ s. string_bytes s ≡ lines_of (facts_text Q.Item.text (Q.stands problem.now)) 0 words.now) }
 {
     let mut out = String::new(heap);
     let mut height = 0;
@@ -31,7 +32,7 @@ fn move_lines<Q: Problem<Item = Cell>>(
         };
         height = open_after(height, arriving.kind);
         let item = Item {
-            cell: problem.item(arriving.fact),
+            stands_for: problem.item(arriving.fact),
         };
         let line = MoveLine {
             arriving,
@@ -66,13 +67,13 @@ fn lawful_part(words: &[u32], answer: Result<(), Fault>) -> &[u32]
 }
 
 // Tells each lawful move of a trail in words, and whether it is a call-matched path or where it stops being one.
-pub fn review<P: Program, Q: Problem<Item = Cell>>(
+pub fn review<P: Program, Q: Problem>(
     heap: Global,
     on: &Analysis<P, Q>,
     words: &[u32],
 ) -> Result<String, AllocError>
     ensures { IfOk result
-        (λ s. string_bytes s ≡ reviewed (Q.stands on.now.problem.now) words.now
+        (λ s. string_bytes s ≡ reviewed (facts_text Q.Item.text (Q.stands on.now.problem.now)) words.now
         (check_no (handed_by P.Program Q.Problem on.now) words.now (length words.now))) }
 {
     let answer = checked(heap, on, words)?;
