@@ -1,6 +1,7 @@
 -- The numbers of the questions, and how a refusal is told.
 use Rattle.std.specs.Prelude.{ℕ, List}
 use Rattle.listing.specs.Refusals.{refused_text}
+use Rattle.listing.specs.declared.refused.Refused.{Refused}
 use Rattle.draft.specs.declared.question.Question.{Question}
 use Rattle.draft.specs.declared.question.Refusal.{Refusal}
 use Rattle.draft.specs.declared.question.Question.TheVariants.{Size, Form, Ranges, Length, End, Procedures, Cells, Jumps, Callees}
@@ -16,6 +17,10 @@ number_of Procedures = 6
 number_of Cells = 7
 number_of Jumps = 8
 number_of Callees = 9
+
+-- number and place, as a refusal tells them
+abbrev pub refused_of : Refusal → Refused
+refused_of r = record { number = number_of r.question; place = r.place }
 
 -- `refused k at j`
 abbrev pub refusal_text : Refusal → List ℕ

@@ -1,6 +1,6 @@
 // The questions that are put to a delivered program, in their order.
 ghost use Rattle.std.specs.Prelude.{◌≡◌, Some};
-ghost use Rattle.draft.specs.Questions.{number_of, refusal_text};
+ghost use Rattle.draft.specs.Questions.{number_of, refused_of, refusal_text};
 
 use listing::numbers::Point;
 use listing::refused::Refused;
@@ -54,15 +54,23 @@ pub struct Refusal {
     pub place: usize,
 }
 
+impl Refusal {
+    // The number and the place that a refusal tells.
+    pub fn refused(self) -> Refused
+        ensures { result ≡ refused_of self }
+    {
+        Refused {
+            number: self.question.number(),
+            place: self.place,
+        }
+    }
+}
+
 impl fmt::Display for Refusal {
     ghost output = { λ r. Some (refusal_text r) };
 
     fn fmt<W: fmt::Write>(&self, f: &mut fmt::Formatter<W>) -> fmt::Result {
-        let refused = Refused {
-            number: self.question.number(),
-            place: self.place,
-        };
-        write!(f, "{refused}")
+        write!(f, "{}", self.refused())
     }
 }
 

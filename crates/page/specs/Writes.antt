@@ -1,5 +1,5 @@
 -- What is written into a part of a page that is lent.
-use Rattle.std.specs.Prelude.{◌≡◌, ℕ, ◌<◌, ◌≤◌, List, [], ◌∷◌, ◌++◌, length, drop, Some, None, decimal, Option}
+use Rattle.std.specs.Prelude.{◌≡◌, ℕ, ◌<◌, ◌≤◌, List, [], ◌∷◌, ◌++◌, length, drop, codes, Some, None, decimal, Option}
 
 -- a text and then a number in decimal
 abbrev pub item : List ℕ → ℕ → List ℕ
@@ -8,6 +8,10 @@ item text number = text ++ decimal number
 -- two numbers in decimal, a text before each, and LF
 abbrev pub phrase : List ℕ → ℕ → List ℕ → ℕ → List ℕ
 phrase before first between second = before ++ (decimal first ++ (between ++ (decimal second ++ (10 ∷ []))))
+
+-- `problem k`
+abbrev pub heading : ℕ → List ℕ
+heading k = codes "problem " ++ (decimal k ++ (10 ∷ []))
 
 -- the text fits, stands at the front of the part, and takes `count` bytes; what stands after it stays
 pub record Put (text : List ℕ) (part : List ℕ) (count : ℕ) (part' : List ℕ) : Type 0 where

@@ -1,6 +1,7 @@
 -- Number and place of a fault, and how it is told.
 use Rattle.std.specs.Prelude.{ℕ, List}
 use Rattle.listing.specs.Refusals.{refused_text}
+use Rattle.listing.specs.declared.refused.Refused.{Refused}
 use Rattle.records.specs.declared.fault.Fault.{Fault}
 use Rattle.records.specs.declared.fault.Fault.TheVariants.{Memory, Counts, Range, Waiting, Unreached, Unwritten, Full}
 
@@ -17,6 +18,10 @@ number_of Full = 17
 -- the place that a refusal tells: 0 with each of these
 abbrev pub place_of : Fault → ℕ
 place_of f = 0
+
+-- both, as a refusal tells them
+abbrev pub refused_of : Fault → Refused
+refused_of f = record { number = number_of f; place = place_of f }
 
 -- `refused k at j`
 abbrev pub fault_text : Fault → List ℕ

@@ -1,6 +1,6 @@
 // Why a call of the table, or of a report of it, is refused.
 ghost use Rattle.std.specs.Prelude.{◌≡◌, Some};
-ghost use Rattle.records.specs.Faults.{number_of, place_of, fault_text};
+ghost use Rattle.records.specs.Faults.{number_of, place_of, refused_of, fault_text};
 
 use listing::refused::Refused;
 use std::fmt;
@@ -45,17 +45,23 @@ impl Fault {
     {
         0
     }
+
+    // The number and the place that a refusal tells.
+    pub fn refused(self) -> Refused
+        ensures { result ≡ refused_of self }
+    {
+        Refused {
+            number: self.number(),
+            place: self.place(),
+        }
+    }
 }
 
 impl fmt::Display for Fault {
     ghost output = { λ f. Some (fault_text f) };
 
     fn fmt<W: fmt::Write>(&self, f: &mut fmt::Formatter<W>) -> fmt::Result {
-        let refused = Refused {
-            number: self.number(),
-            place: self.place(),
-        };
-        write!(f, "{refused}")
+        write!(f, "{}", self.refused())
     }
 }
 
