@@ -1,4 +1,5 @@
--- The lines of a trail, with the statements beside them, byte for byte, where `facts` tells in words what each fact stands for.
+-- The lines of a trail, with the statements beside them, byte for byte, where `facts` tells in words what each fact
+-- stands for.
 use Rattle.std.specs.Prelude.{ℕ, List, [], ◌∷◌, ◌++◌, Some, None, codes, Option}
 use Rattle.listing.specs.Meaning.{Meaning, statement_at}
 use Rattle.listing.specs.declared.numbers.Cell.{Cell}

@@ -22,7 +22,7 @@ pub struct Asked {
     pub pair: Pair,
 }
 
-// Tells the trail of a pair over a program, however it is kept.
+// Tells the trail of a pair over a program, however it is kept, under one of the problems.
 pub fn explain_under<P: Program>(
     heap: Global,
     program: &P,

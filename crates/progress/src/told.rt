@@ -21,7 +21,7 @@ pub struct Tabulation {
     pub pace: Pace,
 }
 
-// Tabulates a program in portions, however it is kept.
+// Tabulates a program in portions, however it is kept, under one of the problems.
 pub fn tabulate_under<P: Program>(
     heap: Global,
     program: &P,

@@ -13,7 +13,7 @@ use std::alloc::{AllocError, Global};
 use telling::Describe;
 use text::tell::tell_listing;
 
-// Tells a trail over a program, however it is kept.
+// Tells a trail over a program, however it is kept, under one of the problems.
 pub fn review_under<P: Program>(
     heap: Global,
     program: &P,

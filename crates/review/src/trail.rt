@@ -17,11 +17,7 @@ use trail_check::fault::Fault;
 use trail_check::trail::check_trail;
 
 // The lines of words, up to the first that is no move's.
-fn move_lines<Q: Problem>(
-    heap: Global,
-    problem: &Q,
-    words: &[u32],
-) -> Result<String, AllocError>
+fn move_lines<Q: Problem>(heap: Global, problem: &Q, words: &[u32]) -> Result<String, AllocError>
     ensures { IfOk result (λ s. string_bytes s ≡ lines_of (facts_text Q.Item.text (Q.stands problem.now)) 0 words.now) }
 {
     let mut out = String::new(heap);
@@ -83,4 +79,27 @@ pub fn review<P: Program, Q: Problem>(
         Err(fault) => writeln!(out, "{fault}")?,
     }
     Ok(out)
+}
+
+#[cfg(test)]
+mod tests {
+    use super::*;
+    use std::test::Fail;
+    use tabled_problem::problem::TabledProblem;
+    use text::text::Text;
+
+    // A fact of a problem that is given by its table is told as a fact.
+    #[test]
+    fn of_facts(rt: HostRuntime) -> Result<(), Fail> {
+        let rows = vec![in rt.alloc(); 0; 8]?;
+        let program = &Text::shortest();
+        let problem = &TabledProblem::new(rows, 2).unwrap();
+        let on = &Analysis { program, problem };
+        let told = review(rt.alloc(), on, &[0x2000_2000])?;
+        assert_eq!(rt;
+            told.as_str(),
+            "start point 0 fact 1 fact 1 open 0\na call-matched path\n"
+        );
+        Ok(())
+    }
 }

@@ -9,8 +9,9 @@ use draft::question::Refusal;
 use listing::program::Program;
 use std::alloc::{AllocError, Global};
 
-// A way to describe a program. It is a trait and not a closure: who calls a closure that is passed in has to ask that it may be called,
-// and no public function asks anything of its callers. Nor can a closure be generic over the program, as `describe` is.
+// A way to describe a program. It is a trait and not a closure: who calls a closure that is passed in has to ask that
+// it may be called, and no public function asks anything of its callers. Nor can a closure be generic over the program,
+// as `describe` is.
 pub trait Describe {
     // the text that is told of a program
     ghost text: { Self → Meaning → List ℕ };

@@ -47,7 +47,8 @@ impl<'a> Text<'a> {
         })
     }
 
-    // Reads a file over this text: its counts, and this text is then that file's, or the first no, and this text is as it was.
+    // Reads a file over this text: its counts, and this text is then that file's, or the first no, and this text is as it
+    // was.
     pub fn read(&mut self, bytes: &'a [u8]) -> Result<Counts, Refusal>
         ensures value { result ≡ answered (refused bytes.now) (totals (meaning_of bytes.now)) }
         ensures reads { MatchResult result (λ _. (reading bytes.now ≡ Ok (meaning_of bytes.now)) × (bytes_of self.new ≡ bytes.now)) (λ e. (reading bytes.now ≡ Err e) × (self.new ≡ self.old)) }
