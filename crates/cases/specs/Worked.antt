@@ -22,7 +22,7 @@ use Rattle.paths.specs.Does.{Handed, gives, refuses, no, writes, open_answer, so
 use Rattle.paths.specs.Handing.{posed}
 use Rattle.paths.specs.Law.{Reached}
 use Rattle.paths.specs.Memory.{blank}
-use Rattle.paths.specs.Page.{pairs_of, lines_text, foot_text}
+use Rattle.paths.specs.Page.{pairs_of, report_text}
 use Rattle.paths.specs.Tabled.{Tabled, newly_in, work}
 use Rattle.paths.specs.declared.worklist.End.{End}
 use Rattle.paths.specs.declared.worklist.End.TheVariants.{Oldest, Newest}
@@ -94,10 +94,6 @@ table_from end choice t = run_out end (handed_of choice t) (sown choice t)
 -- the same, the oldest first
 abbrev pub table : Choice → List ℕ → Tabled
 table choice t = table_from Oldest choice t
-
--- a table's report
-abbrev pub report : Tabled → List ℕ
-report t = lines_text (pairs_of t) ++ foot_text (length (pairs_of t)) t.settled
 
 -- a call-matched path from one of the default starts ends at point n with fact d
 abbrev pub Reaches : Choice → List ℕ → ℕ → ℕ → Type 0
@@ -175,17 +171,17 @@ pub record Worked : Type 0 where
   -- C under unset: its records, its starts, and its report with none of them sown and with all. A list by cells would have (1, 2) twice
   pub records_c : open_answer (handed_of Unset listing_c) (replicate 18 blank) ≡ gives 0
   pub few_records_c : open_answer (handed_of Unset listing_c) (replicate 17 blank) ≡ refuses 11
-  pub none_sown_c : report (run_out Oldest (handed_of Unset listing_c) (opened (handed_of Unset listing_c))) ≡ listed (codes "pairs 0 cells 0" ∷ [])
+  pub none_sown_c : report_text (run_out Oldest (handed_of Unset listing_c) (opened (handed_of Unset listing_c))) ≡ listed (codes "pairs 0 cells 0" ∷ [])
   pub waits_c : close_answer (sown Unset listing_c).waiting ≡ refuses 14
   pub none_waits_c : close_answer (table Unset listing_c).waiting ≡ gives 0
-  pub report_c : report (table Unset listing_c)
+  pub report_c : report_text (table Unset listing_c)
       ≡ listed (codes "0 0" ∷ codes "0 1" ∷ codes "0 2" ∷ codes "1 0" ∷ codes "1 1" ∷ codes "1 2" ∷ codes "pairs 6 cells 7" ∷ [])
   pub line_c : line_turn (begun (table Unset listing_c)) (replicate 4 0) ≡ writes (listed (codes "0 0" ∷ []))
   pub short_page_c : line_turn (begun (table Unset listing_c)) (replicate 3 0) ≡ no 17
   pub early_foot_c : foot_turn (begun (table Unset listing_c)) (replicate 16 0) ≡ no 16
   pub exact_c : ListsReached Unset listing_c
   -- C under raw
-  pub raw_c : report (table Raw listing_c) ≡ listed (codes "0 0" ∷ codes "1 0" ∷ codes "pairs 2 cells 2" ∷ [])
+  pub raw_c : report_text (table Raw listing_c) ≡ listed (codes "0 0" ∷ codes "1 0" ∷ codes "pairs 2 cells 2" ∷ [])
   pub exact_raw_c : ListsReached Raw listing_c
   -- starts that are sown again or refused: a procedure and a fact out of range, and a problem of other counts
   pub sown_again_c : sown_all (handed_of Unset listing_c) (defaults Unset listing_c) (sown Unset listing_c) ≡ sown Unset listing_c

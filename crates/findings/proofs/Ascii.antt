@@ -5,11 +5,10 @@ use Rattle.std.proofs.lemmas.Str.{IsAscii-append, IsUtf8-from_ascii}
 use Rattle.std.proofs.lemmas.Fmt.{IsAscii-decimal}
 use Rattle.std.proofs.lemmas.List.Concat.{flat_map-append}
 use Rattle.std.specs.Fmt.{decimal}
-use Rattle.paths.specs.Page.{any_found, pairs_at, pairs_below, pairs_of, line_text, lines_text, foot_text}
+use Rattle.paths.specs.Page.{any_found, pairs_at, pairs_below, pairs_of, line_text, lines_text, foot_text, report_text}
 use Rattle.paths.specs.Tabled.{Tabled}
 use Rattle.report.specs.Pairs.{pairs_before}
 use Rattle.report.proofs.Numbered.{before_all, few_before, few_pairs}
-use Rattle.findings.specs.Report.{report_text}
 
 nothing : IsAscii []
 nothing = search rules

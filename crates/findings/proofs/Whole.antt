@@ -4,11 +4,11 @@ use Rattle.std.proofs.lemmas.Bool.{cond-true, eq-eqb, leb-true, leb-false}
 use Rattle.std.proofs.lemmas.List.{length-append, length-take-le, take_all, take-append-drop}
 use Rattle.std.proofs.lemmas.List.Concat.{flat_map-append}
 use Rattle.paths.specs.Does.{Handed, gives, refuses, Report, State, Turn, no, fitting, foot_turn, foot_answer, memory_by, Foots, begun, Closed}
-use Rattle.paths.specs.Page.{pairs_of, line_text, lines_text, foot_text}
+use Rattle.paths.specs.Page.{pairs_of, line_text, lines_text, foot_text, report_text}
 use Rattle.paths.specs.Tabled.{Tabled}
 use Rattle.paths.proofs.Pages.{Paged, pages}
 use Rattle.records.specs.declared.fault.Fault.{Fault}
-use Rattle.findings.specs.Report.{report_text, Led, Underway, Filled, Late}
+use Rattle.findings.specs.Report.{Led, Underway, Filled, Late}
 use Rattle.findings.proofs.Turns.{same_size}
 
 -- a report that is begun is under way

@@ -5,6 +5,7 @@ use Rattle.flow.specs.declared.interface.Start.{Start}
 use Rattle.paths.specs.Does.{Handed, Closed, room_for}
 use Rattle.paths.specs.Law.{Reported}
 use Rattle.paths.specs.Memory.{Rec}
+use Rattle.paths.specs.Page.{report_text}
 use Rattle.paths.specs.Tabled.{Tabled, newly_in, work}
 use Rattle.paths.specs.declared.worklist.End.TheVariants.{Oldest}
 use Rattle.records.specs.declared.fault.Fault.{Fault}
@@ -12,7 +13,7 @@ use Rattle.records.specs.declared.fault.Fault.TheVariants.{Full, Memory}
 use Rattle.starts.specs.Sown.{given_starts, sown_all, accepted_all}
 use Rattle.table.specs.State.{rec, state, ClosedTable}
 use Rattle.table.specs.Told as told
-use Rattle.findings.specs.Report.{report_text, Led}
+use Rattle.findings.specs.Report.{Led}
 
 -- a table newly opened in a memory
 abbrev pub opened : Handed → List Rec → Tabled

@@ -1,17 +1,13 @@
 -- The report of a table on a page.
-use Rattle.std.specs.Prelude.{◌≡◌, ℕ, ◌+◌, ◌<◌, ◌≤◌, List, ◌∷◌, ◌++◌, length, take, drop, Ok, Err, Result}
+use Rattle.std.specs.Prelude.{◌≡◌, ℕ, ◌+◌, ◌<◌, ◌≤◌, List, ◌∷◌, length, take, drop, Ok, Err, Result}
 use Rattle.std.specs.Str.{IsUtf8}
 use Rattle.paths.specs.Does.{Handed, Report, State}
 use Rattle.paths.specs.Law.{Reported}
-use Rattle.paths.specs.Page.{pairs_of, lines_text, line_text, foot_text}
+use Rattle.paths.specs.Page.{pairs_of, line_text, report_text}
 use Rattle.paths.specs.Tabled.{Tabled}
 use Rattle.paths.specs.Usage.{Usage, Standing, OnPage}
 use Rattle.records.specs.declared.fault.Fault.{Fault}
 use Rattle.records.specs.declared.fault.Fault.TheVariants.{Full}
-
--- the text of a table's report: a line for each pair, then the foot
-abbrev pub report_text : Tabled → List ℕ
-report_text t = lines_text (pairs_of t) ++ foot_text (length (pairs_of t)) t.settled
 
 -- some row of calls from a newly opened table on, which accepted the starts, led here
 pub record Led (h : Handed) (starts : List (ℕ × ℕ)) (s : State) : Type 0 where

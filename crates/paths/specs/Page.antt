@@ -35,6 +35,10 @@ foot_text R C = codes "pairs " ++ (decimal R ++ (codes " cells " ++ (decimal C +
 abbrev pub lines_text : List (ℕ × ℕ) → List ℕ
 lines_text pairs = flat_map line_text pairs
 
+-- the text of a table's report: a line for each pair, then the foot
+abbrev pub report_text : Tabled → List ℕ
+report_text t = lines_text (pairs_of t) ++ foot_text (length (pairs_of t)) t.settled
+
 -- a memory with some numbers written from a place on; those before and after stay
 abbrev pub put_at : ℕ → List ℕ → List ℕ → List ℕ
 put_at place new memory = take place memory ++ (new ++ drop (place + length new) memory)

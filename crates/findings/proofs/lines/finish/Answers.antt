@@ -1,10 +1,10 @@
 use Rattle.std.proofs.Common.{◌≡◌, ◌^◌, ◌<◌, length, sym, ap, ◌∙◌, subst, arith}
+use Rattle.paths.specs.Page.{report_text}
 use Rattle.paths.specs.Tabled.{Tabled}
 use Rattle.paths.proofs.Pages.{foot_page}
 use Rattle.records.specs.Faults.{number_of}
 use Rattle.table.proofs.Opens.{few_cells}
 use Rattle.report.specs.Told.{reported}
-use Rattle.findings.specs.Report.{report_text}
 use Rattle.std.specs.Str.{IsUtf8}
 use Rattle.findings.proofs.Ascii.{report_utf8}
 use Rattle.findings.proofs.Turns.{is_full}
