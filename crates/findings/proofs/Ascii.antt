@@ -5,6 +5,11 @@ use Rattle.std.proofs.lemmas.Str.{IsAscii-append, IsUtf8-from_ascii}
 use Rattle.std.proofs.lemmas.Fmt.{IsAscii-decimal}
 use Rattle.std.proofs.lemmas.List.Concat.{flat_map-append}
 use Rattle.std.specs.Fmt.{decimal}
+use Rattle.listing.specs.Refusals.{refused_text}
+use Rattle.page.specs.Writes.{heading}
+use Rattle.records.specs.Faults.{number_of, place_of, fault_text}
+use Rattle.records.specs.declared.fault.Fault.{Fault}
+use Rattle.records.specs.declared.fault.Fault.TheVariants.{Memory, Counts, Range, Waiting, Unreached, Unwritten, Full}
 use Rattle.paths.specs.Page.{any_found, pairs_at, pairs_below, pairs_of, line_text, lines_text, foot_text, report_text}
 use Rattle.paths.specs.Tabled.{Tabled}
 use Rattle.report.specs.Pairs.{pairs_before}
@@ -66,3 +71,37 @@ report_utf8 t hn hf hc =
     IsUtf8-from_ascii (report_text t)
     (IsAscii-append (lines_text (pairs_of t)) (foot_text (length (pairs_of t)) t.settled) (below t.points t hn hf)
     (foot (length (pairs_of t)) t.settled (omega arith) hc))
+
+problem_word : IsAscii (codes "problem ")
+problem_word = search rules
+
+refused_word : IsAscii (codes "refused ")
+refused_word = search rules
+
+at_word : IsAscii (codes " at ")
+at_word = search rules
+
+pub heading_utf8 : (k : ℕ) → k < 2 ^ 64 → IsUtf8 (heading k)
+heading_utf8 k h =
+    IsUtf8-from_ascii (heading k)
+    (IsAscii-append (codes "problem ") (decimal k ++ (10 ∷ [])) problem_word (IsAscii-append (decimal k) (10 ∷ []) (IsAscii-decimal k h) end))
+
+-- a refusal in a line
+pub refused_utf8 : (k j : ℕ) → k < 2 ^ 64 → j < 2 ^ 64 → IsUtf8 (refused_text k j ++ (10 ∷ []))
+refused_utf8 k j hk hj =
+    IsUtf8-from_ascii (refused_text k j ++ (10 ∷ []))
+    (IsAscii-append (refused_text k j) (10 ∷ [])
+    (IsAscii-append (codes "refused ") (decimal k ++ (codes " at " ++ decimal j)) refused_word
+    (IsAscii-append (decimal k) (codes " at " ++ decimal j) (IsAscii-decimal k hk) (IsAscii-append (codes " at ") (decimal j) at_word (IsAscii-decimal j hj)))) end)
+
+pub small_number : (f : Fault) → number_of f < 2 ^ 64
+small_number Memory = omega arith
+small_number Counts = omega arith
+small_number Range = omega arith
+small_number Waiting = omega arith
+small_number Unreached = omega arith
+small_number Unwritten = omega arith
+small_number Full = omega arith
+
+pub fault_utf8 : (f : Fault) → IsUtf8 (fault_text f ++ (10 ∷ []))
+fault_utf8 f = refused_utf8 (number_of f) (place_of f) (small_number f) (omega arith)

@@ -1,5 +1,5 @@
 -- Line after line.
-use Rattle.std.proofs.Common.{◌≡◌, ℕ, suc, ◌+◌, ◌<◌, Bool, true, false, List, [], ◌∷◌, length, drop, Result, refl, ap, ◌∙◌, arith, leb}
+use Rattle.std.proofs.Common.{◌≡◌, ℕ, suc, ◌+◌, ◌<◌, ◌≤◌, Bool, true, false, List, [], ◌∷◌, length, drop, Result, refl, sym, ap, ◌∙◌, arith, leb}
 use Rattle.std.proofs.lemmas.Bool.{leb-true}
 use Rattle.std.proofs.lemmas.List.{length-drop}
 use Rattle.paths.specs.Does.{Handed, Answer, gives, refuses, Report, Turn, no, nothing_left, writes, fitting, memory_by, line_turn_by, line_turn, line_answer, line_after}
@@ -10,7 +10,7 @@ use Rattle.records.specs.Faults.{number_of}
 use Rattle.records.specs.declared.fault.Fault.{Fault}
 use Rattle.table.specs.Told.{one_if_yes}
 use Rattle.findings.specs.Report.{Lined, Late}
-use Rattle.findings.proofs.Turns.{written, unfit, is_full, same_size}
+use Rattle.findings.proofs.Turns.{written, unfit, is_full, same_size, behind, still_same}
 
 same_table : (turn : Turn) (r : Report) → (line_after turn r).table ≡ r.table
 same_table (no q) r = refl
@@ -25,19 +25,51 @@ size_by (x ∷ xs) place page = go (leb (place + length (line_text x)) (length p
     go true same = same_size place (line_text x) page (leb-true (place + length (line_text x)) (length page) same)
     go false same = refl
 
+-- a report's place goes on
+place_by : (turn : Turn) (r : Report) → r.place ≤ (line_after turn r).place
+place_by (no q) r = omega arith
+place_by nothing_left r = omega arith
+place_by (writes new) r = omega arith
+
+rest_by : (xs : List (ℕ × ℕ)) (r : Report) (page : List ℕ)
+    → drop (line_after (line_turn_by xs r.place (length page)) r).place (memory_by (line_turn_by xs r.place (length page)) r.place page)
+    ≡ drop (line_after (line_turn_by xs r.place (length page)) r).place page
+rest_by [] r page = refl
+rest_by (x ∷ xs) r page = go (leb (r.place + length (line_text x)) (length page)) refl
+  where
+    go : (b : Bool) → leb (r.place + length (line_text x)) (length page) ≡ b
+        → drop (line_after (fitting b (line_text x)) r).place (memory_by (fitting b (line_text x)) r.place page) ≡ drop (line_after (fitting b (line_text x)) r).place page
+    go true same = behind r.place (line_text x) page (leb-true (r.place + length (line_text x)) (length page) same)
+    go false same = refl
+
 -- a loop begins
 pub begun : (h : Handed) (starts : List (ℕ × ℕ)) (r : Report) (page : List ℕ) → Lined h starts r page r page
-begun h starts r page = record { table = refl; size = refl; carries = λ u. u }
+begun h starts r page = record { table = refl; size = refl; rest = refl; carries = λ u. u }
 
 module _ (r r' : Report) (page page' : List ℕ) (res : Result Bool Fault) (line : does.Lines r page (one_if_yes res) page' r') where
   table : r'.table ≡ r.table
   table = ap (λ (x : Report). x.table) line.leaves ∙ same_table (line_turn r page) r
+
+  place : r'.place ≡ (line_after (line_turn r page) r).place
+  place = ap (λ (x : Report). x.place) line.leaves
+
+  further : r.place ≤ r'.place
+  further = (let b = place_by (line_turn r page) r in omega (arith, place))
+
+  -- what stands behind the line stays
+  rest : drop r'.place page' ≡ drop r'.place page
+  rest =
+      ap (λ (n : ℕ). drop n page') place
+      ∙ ap (drop (line_after (line_turn r page) r).place) line.holds
+      ∙ rest_by (drop r.lines (pairs_of r.table)) r page
+      ∙ ap (λ (n : ℕ). drop n page) (sym place)
 
   -- one line more
   pub lined : (h : Handed) (starts : List (ℕ × ℕ)) (first : Report) (at_first : List ℕ) → Lined h starts first at_first r page → Lined h starts first at_first r' page'
   lined h starts first at_first so = record {
     table = table ∙ so.table;
     size = ap length line.holds ∙ size_by (drop r.lines (pairs_of r.table)) r.place page ∙ so.size;
+    rest = rest ∙ still_same page at_first r.place r'.place further so.rest;
     carries = λ u.
         let v = so.carries u in
         record { first = v.first; usage = v.usage; on = v.usage.lined starts r r' (one_if_yes res) page page' v.on line };

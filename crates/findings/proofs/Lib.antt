@@ -3,5 +3,8 @@ pub mod Carried
 pub mod Whole
 pub mod Ascii
 pub mod Settling
-pub mod Lists
 pub mod Both
+pub mod AnyMemory
+pub mod Fronts
+pub mod Reports
+pub mod Bounds

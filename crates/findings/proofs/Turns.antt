@@ -1,7 +1,7 @@
 -- What a line's answer tells of the pairs that are left.
-use Rattle.std.proofs.Common.{◌≡◌, ℕ, ◌+◌, ◌<◌, ◌≤◌, Bool, true, false, List, [], ◌∷◌, ◌++◌, length, take, drop, refl, ap, arith, leb}
+use Rattle.std.proofs.Common.{◌≡◌, ℕ, ◌+◌, ◌-◌, ◌<◌, ◌≤◌, Bool, true, false, List, [], ◌∷◌, ◌++◌, length, take, drop, refl, sym, ap, ◌∙◌, append_assoc, arith, leb}
 use Rattle.std.proofs.lemmas.Bool.{leb-true, leb-false}
-use Rattle.std.proofs.lemmas.List.{length-append, length-take-le, length-drop}
+use Rattle.std.proofs.lemmas.List.{length-append, length-take-le, length-drop, drop_at, drop-drop}
 use Rattle.paths.specs.Does.{gives, refuses, no, writes, fitting, line_turn_by, line_answer}
 use Rattle.paths.specs.Page.{line_text, put_at}
 use Rattle.records.specs.Faults.{number_of}
@@ -72,3 +72,17 @@ same_size place new page h =
     let c = length-take-le place page (omega arith) in
     let d = length-drop (place + length new) page in
     omega arith
+
+-- and what stands behind it
+pub behind : (place : ℕ) (new page : List ℕ) → place + length new ≤ length page → drop (place + length new) (put_at place new page) ≡ drop (place + length new) page
+behind place new page h =
+    let rest = drop (place + length new) page in
+    let l : length (take place page ++ new) ≡ place + length new =
+    length-append (take place page) new ∙ ap (λ (n : ℕ). n + length new) (length-take-le place page (omega arith)) in
+    ap (drop (place + length new)) (sym (append_assoc (take place page) new rest)) ∙ drop_at (take place page ++ new) rest (place + length new) l
+
+-- what is the same from a place on is the same from a later one on
+pub still_same : (xs ys : List ℕ) (i j : ℕ) → i ≤ j → drop i xs ≡ drop i ys → drop j xs ≡ drop j ys
+still_same xs ys i j l e =
+    let k : j ≡ i + (j - i) = omega arith in
+    ap (λ (n : ℕ). drop n xs) k ∙ (sym (drop-drop (j - i) i xs) ∙ ap (drop (j - i)) e ∙ drop-drop (j - i) i ys) ∙ ap (λ (n : ℕ). drop n ys) (sym k)

@@ -1,5 +1,5 @@
 -- The page of a whole report.
-use Rattle.std.proofs.Common.{◌≡◌, Result, subst, ℕ, ◌+◌, ◌<◌, ◌≤◌, Bool, true, false, List, ◌++◌, length, take, drop, refl, sym, ap, ◌∙◌, arith, leb, ◌==◌}
+use Rattle.std.proofs.Common.{◌≡◌, Result, Ok, Err, subst, ℕ, ◌+◌, ◌<◌, ◌≤◌, Bool, true, false, List, ◌++◌, length, take, drop, refl, sym, ap, ◌∙◌, arith, leb, ◌==◌}
 use Rattle.std.proofs.lemmas.Bool.{cond-true, eq-eqb, leb-true, leb-false}
 use Rattle.std.proofs.lemmas.List.{length-append, length-take-le, take_all, take-append-drop}
 use Rattle.std.proofs.lemmas.List.Concat.{flat_map-append}
@@ -8,20 +8,31 @@ use Rattle.paths.specs.Page.{pairs_of, line_text, lines_text, foot_text, report_
 use Rattle.paths.specs.Tabled.{Tabled}
 use Rattle.paths.proofs.Pages.{Paged, pages}
 use Rattle.records.specs.declared.fault.Fault.{Fault}
-use Rattle.findings.specs.Report.{Led, Underway, Filled, Late}
-use Rattle.findings.proofs.Turns.{same_size}
+use Rattle.records.specs.declared.fault.Refusal.{Refusal}
+use Rattle.table.specs.State.{state, ClosedTable}
+use Rattle.table.specs.Told.{Memory}
+use Rattle.page.specs.Writes.{Put}
+use Rattle.findings.specs.Report.{Led, Underway, Finished, Filled, Late}
+use Rattle.findings.specs.declared.written.Written.{Written}
+use Rattle.findings.proofs.Turns.{same_size, behind}
 
 -- a report that is begun is under way
 begins : (h : Handed) (starts : List (ℕ × ℕ)) (t : Tabled) (page : List ℕ) → Led h starts (Closed t) → Underway h starts (begun t) page
 begins h starts t page led = record { first = led.first; usage = led.usage; on = led.usage.begins starts t page led.stands }
 
 -- what is left of such a report is all of it
-pub from_begun : (r : Report) (t : Tabled) (page page' : List ℕ) (o : Result ℕ Fault) → r ≡ begun t
-    → ((h : Handed) (starts : List (ℕ × ℕ)) → Underway h starts r page → Filled h starts r.table page o page')
-    → (h : Handed) (starts : List (ℕ × ℕ)) → Led h starts (Closed t) → Filled h starts t page o page'
-from_begun r t page page' o e f h starts led =
-    subst (λ (x : Report). Filled h starts x.table page o page') e
+pub from_begun : (r : Report) (t : Tabled) (memory : Memory) (page page' : List ℕ) (o : Result Written (Refusal Memory)) → r ≡ begun t
+    → ((h : Handed) (starts : List (ℕ × ℕ)) → Underway h starts r page → Finished h starts r.table memory page o page')
+    → (h : Handed) (starts : List (ℕ × ℕ)) → Led h starts (Closed t) → Finished h starts t memory page o page'
+from_begun r t memory page page' o e f h starts led =
+    subst (λ (x : Report). Finished h starts x.table memory page o page') e
     (f h starts (subst (λ (x : Report). Underway h starts x page) (sym e) (begins h starts t page led)))
+
+-- a report that fits is whole: nothing else can have come of it
+pub fits_whole : (h : Handed) (starts : List (ℕ × ℕ)) (t : ClosedTable) (page page' : List ℕ) (o : Result Written (Refusal Memory)) → length (report_text (state t)) ≤ length page
+    → Finished h starts (state t) t.core.records page o page' → Filled h starts t page o page'
+fits_whole h starts t page page' (Ok w) fits f = f
+fits_whole h starts t page page' (Err e) fits f = absurd (let z = f.0.full in omega arith)
 
 -- the page up to the report's place is the lines written so far
 pub paged : (h : Handed) (starts : List (ℕ × ℕ)) (r : Report) (page : List ℕ) → Underway h starts r page → Paged r page
@@ -72,15 +83,36 @@ module _ (r : Report) (page page' : List ℕ) (s : State) (p : Paged r page) (al
           let c = text_length r.table in
           (cc, omega (arith, here, foot_size))
 
-  -- a foot that is given ends on the page, whose length stays
-  pub foot_ends : (k : ℕ) → Foots r page (gives k) page' s → (k ≤ length page') × (length page' ≡ length page)
+  -- a foot that is given ends on the page, whose length stays, as what stands behind it does
+  pub record Ends (k : ℕ) : Type 0 where
+    pub within : k ≤ length page'
+    pub size : length page' ≡ length page
+    pub after : r.place ≤ k
+    pub rest : drop k page' ≡ drop k page
+
+  pub foot_ends : (k : ℕ) → Foots r page (gives k) page' s → Ends k
   foot_ends k does = go (leb (r.place + length foot) (length page)) refl (does.answers ∙ ap (λ (x : Turn). foot_answer x r.place) turn) (does.holds ∙ ap (λ (x : Turn). memory_by x r.place page) turn)
     where
       go : (b : Bool) → leb (r.place + length foot) (length page) ≡ b → gives k ≡ foot_answer (fitting b foot) r.place → page' ≡ memory_by (fitting b foot) r.place page
-          → (k ≤ length page') × (length page' ≡ length page)
+          → Ends k
       go true same e holds =
           let fits = leb-true (r.place + length foot) (length page) same in
           let k_is : k ≡ r.place + length foot = cc in
           let len : length page' ≡ length page = ap length holds ∙ same_size r.place foot page fits in
-          (omega arith, len)
+          record {
+            within = omega arith;
+            size = len;
+            after = omega arith;
+            rest = ap (λ (n : ℕ). drop n page') k_is ∙ ap (drop (r.place + length foot)) holds ∙ behind r.place foot page fits ∙ ap (λ (n : ℕ). drop n page) (sym k_is);
+          }
       go false same e holds = let z : ◌≡◌ {A = ℕ} 0 1 = cc in absurd (omega arith)
+
+-- a text up to whose end the page holds it, and behind which the page is as it was
+pub put_front : (text page page' : List ℕ) (k : ℕ) → k ≤ length page' → length page' ≡ length page → take k page' ≡ text → drop k page' ≡ drop k page → Put text page k page'
+put_front text page page' k within size holds rest =
+    let l : k ≡ length text = sym (length-take-le k page' within) ∙ ap length holds in
+    record {
+      fits = omega arith;
+      takes = l;
+      holds = sym (take-append-drop k page') ∙ ap (λ (xs : List ℕ). xs ++ drop k page') holds ∙ ap (λ (xs : List ℕ). text ++ xs) (rest ∙ ap (λ (n : ℕ). drop n page) l);
+    }

@@ -1,3 +1,4 @@
+pub mod Written
 pub mod Report
 pub mod Outcome
 pub mod Told

@@ -1,8 +1,9 @@
 -- What the reports of a listing tell.
-use Rattle.std.specs.Prelude.{◌≡◌, ℕ, List, [], ◌++◌, Ok, Result}
+use Rattle.std.specs.Prelude.{◌≡◌, ℕ, List, [], ◌++◌, Ok, Err, Result}
 use Rattle.flow.specs.Choices.{number, starts_of}
 use Rattle.flow.specs.declared.choice.Choice.{Choice}
 use Rattle.flow.specs.declared.choice.Choice.TheVariants.{Unset, Raw}
+use Rattle.draft.specs.declared.question.Refusal.{Refusal}
 use Rattle.listing.specs.Meaning.{Meaning}
 use Rattle.paths.specs.Handing.{posed}
 use Rattle.paths.specs.Law.{Reported}
@@ -11,6 +12,7 @@ use Rattle.starts.specs.Sown.{latest_first}
 use Rattle.text.specs.Reading.{reading}
 use Rattle.telling.specs.Telling.{told_by, HoldsBy}
 use Rattle.findings.specs.Told.{reported, problem_text}
+use Rattle.findings.specs.Written.{taken}
 use Rattle.findings.specs.declared.room.Room.{Room}
 
 -- what is told of a problem about g globals and l locals
@@ -42,3 +44,16 @@ told_of t room = told_by (λ m. both_told m room) (reading t)
 -- what is told of a listing that is read is so of the program that its bytes mean
 abbrev pub ListingTold : List ℕ → Room → List ℕ → Type 0
 ListingTold t room text = HoldsBy (λ m s. Told room m s) (reading t) text
+
+-- how many of k records a program's tables take, one after the other: the problems about its cells have the same facts
+abbrev pub taken_of : Meaning → ℕ → ℕ
+taken_of m k = taken (posed Unset m.globals m.locals m) k
+
+-- the same of what a reading answers; none where it refuses
+abbrev pub taken_by : ℕ → Result Meaning Refusal → ℕ
+taken_by k (Ok m) = taken_of m k
+taken_by k (Err r) = 0
+
+-- how many of k records the tables of a listing take
+abbrev pub records_taken : List ℕ → ℕ → ℕ
+records_taken t k = taken_by k (reading t)

@@ -1,19 +1,19 @@
 -- What comes of a report of the default starts, in a memory of records and on a page.
-use Rattle.std.specs.Prelude.{◌≡◌, ℕ, ◌+◌, ◌*◌, ◌≤◌, true, false, cond, List, [], map, length, take, Ok, Err, Result, nat_le, vec_items}
-use Rattle.std.specs.Str.{IsUtf8}
+use Rattle.std.specs.Prelude.{◌≡◌, ℕ, ◌+◌, ◌*◌, true, false, cond, List, [], map, length, take, Ok, Err, Result, nat_le, vec_items}
 use Rattle.flow.specs.declared.interface.Start.{Start}
 use Rattle.paths.specs.Does.{Handed, Closed, room_for}
-use Rattle.paths.specs.Law.{Reported}
 use Rattle.paths.specs.Memory.{Rec}
 use Rattle.paths.specs.Page.{report_text}
 use Rattle.paths.specs.Tabled.{Tabled, newly_in, work}
 use Rattle.paths.specs.declared.worklist.End.TheVariants.{Oldest}
 use Rattle.records.specs.declared.fault.Fault.{Fault}
 use Rattle.records.specs.declared.fault.Fault.TheVariants.{Full, Memory}
+use Rattle.records.specs.declared.fault.Refusal.{Refusal}
 use Rattle.starts.specs.Sown.{given_starts, sown_all, accepted_all}
 use Rattle.table.specs.State.{rec, state, ClosedTable}
 use Rattle.table.specs.Told as told
 use Rattle.findings.specs.Report.{Led}
+use Rattle.findings.specs.Written.{Returned}
 
 -- a table newly opened in a memory
 abbrev pub opened : Handed → List Rec → Tabled
@@ -45,19 +45,13 @@ pub record Settled (h : Handed) (starts : List Start) (memory : List Rec) (t : T
   pub state_is : t ≡ settled h starts memory
   pub led : Led h (accepted h starts memory) (Closed t)
 
--- a table was made and settled so; or the memory has too few records
-abbrev pub Settles : Handed → List Start → told.Memory → Result ClosedTable Fault → Type 0
-Settles h starts memory (Ok t) = Settled h starts (map rec (vec_items memory)) (state t)
-Settles h starts memory (Err f) = (room_for h (map rec (vec_items memory)) ≡ false) × (f ≡ Memory)
+-- the memory has too few records, and comes back as it was
+pub record NotSettled (h : Handed) (memory : told.Memory) (e : Refusal told.Memory) : Type 0 where
+  pub few : room_for h (map rec (vec_items memory)) ≡ false
+  pub fault : e.fault ≡ Memory
+  pub back : e.back ≡ memory
 
--- the page up to the place after the report is the report of the default starts, and tells what is reached from those that are accepted
-pub record Filled (h : Handed) (starts : List Start) (memory : List Rec) (size end : ℕ) (page : List ℕ) : Type 0 where
-  pub within : end ≤ length page
-  pub text : outcome h starts memory size ≡ Ok (take end page)
-  pub utf8 : IsUtf8 (take end page)
-  pub tells : Reported h (accepted h starts memory) (take end page)
-
--- the same, or why there is no report
-abbrev pub Fills : Handed → List Start → told.Memory → List ℕ → Result ℕ Fault → List ℕ → Type 0
-Fills h starts memory page (Ok end) page' = Filled h starts (map rec (vec_items memory)) (length page) end page'
-Fills h starts memory page (Err f) page' = outcome h starts (map rec (vec_items memory)) (length page) ≡ Err f
+-- a table was made and settled so, in the memory; or the memory has too few records
+abbrev pub Settles : Handed → List Start → told.Memory → Result ClosedTable (Refusal told.Memory) → Type 0
+Settles h starts memory (Ok t) = Settled h starts (map rec (vec_items memory)) (state t) × Returned (h.points * h.facts * h.facts) memory t.core.records
+Settles h starts memory (Err e) = NotSettled h memory e

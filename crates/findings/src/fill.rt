@@ -1,28 +1,28 @@
-// A report of a program and a problem, on a page.
+// A table of a program and a problem, filled.
+ghost use Rattle.std.specs.Prelude.{◌≡◌, ◌*◌, true, map, vec_items};
+ghost use Rattle.paths.specs.Does.{counts_fit};
 ghost use Rattle.paths.specs.Handing.{handed_by};
-ghost use Rattle.findings.specs.Outcome.{Settles, Fills};
+ghost use Rattle.table.specs.State.{rec, state};
+ghost use Rattle.table.specs.Told.{Memory, Opened};
+ghost use Rattle.findings.specs.Outcome.{Settled, Settles};
+ghost use Rattle.findings.specs.Written.{Returned};
 
-use crate::lines::write_report;
 use flow::interface::Problem;
 use listing::program::Program;
 use paths::analysis::Analysis;
 use paths::worklist::End;
-use records::fault::Fault;
+use records::fault::Refusal;
 use records::record::Record;
 use starts::sow_starts;
 use table::state::{ClosedTable, OpenTable, records_for};
 
-// A table in a memory, with the default starts sown and every cell settled, the oldest first.
-pub fn settle_all<P: Program, Q: Problem>(
-    memory: Vec<Record>,
-    on: &Analysis<P, Q>,
-) -> Result<ClosedTable, Fault>
-    ensures { Settles (handed_by P.Program Q.Problem on.now) (Q.starts on.now.problem.now) memory result }
+// Sows the default starts in a newly opened table, settles every cell, the oldest first, and closes the table.
+fn settled<P: Program, Q: Problem>(table: OpenTable, on: &Analysis<P, Q>) -> ClosedTable
+    requires { counts_fit (handed_by P.Program Q.Problem on.now) (state table) ≡ true }
+    ensures settled { (memory : Memory) → Opened (handed_by P.Program Q.Problem on.now) memory table → Settled (handed_by P.Program Q.Problem on.now) (Q.starts on.now.problem.now) (map rec (vec_items memory)) (state result) }
+    ensures returned { let h = handed_by P.Program Q.Problem on.now in (memory : Memory) → Opened h memory table → Returned (h.points * h.facts * h.facts) memory result.core.records }
 {
-    let mut table = match OpenTable::open(memory, on) {
-        Ok(table) => table,
-        Err(refusal) => return Err(refusal.fault),
-    };
+    let mut table = table;
     sow_starts(&mut table, on);
     // one more than there are cells, so that it ends with none waiting
     let Ok(_) = table.work(on, records_for(on) + 1, End::Oldest) else {
@@ -31,17 +31,16 @@ pub fn settle_all<P: Program, Q: Problem>(
     let Ok(table) = table.close() else {
         unreachable()
     };
-    Ok(table)
+    table
 }
 
-// Writes the report of the default starts on a page, and gives the place after it; or why there is none.
-pub(crate) fn fill<P: Program, Q: Problem>(
+// A table in a memory, with the default starts sown and every cell settled, the oldest first. A memory that is too short comes back as it was.
+pub fn settle_all<P: Program, Q: Problem>(
     memory: Vec<Record>,
     on: &Analysis<P, Q>,
-    page: &mut [u8],
-) -> Result<usize, Fault>
-    ensures { Fills (handed_by P.Program Q.Problem on.now) (Q.starts on.now.problem.now) memory page.old result page.new }
+) -> Result<ClosedTable, Refusal<Vec<Record>>>
+    ensures { Settles (handed_by P.Program Q.Problem on.now) (Q.starts on.now.problem.now) memory result }
 {
-    let table = settle_all(memory, on)?;
-    write_report(table, page)
+    let table = OpenTable::open(memory, on)?;
+    Ok(settled(table, on))
 }

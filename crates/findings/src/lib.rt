@@ -2,7 +2,9 @@
 #![tactic(auto)]
 
 pub mod fill;
+pub mod lent;
 mod lines;
 pub mod listed;
 pub mod room;
-pub mod told;
+mod told;
+pub mod written;

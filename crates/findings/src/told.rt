@@ -1,68 +1,99 @@
-// The reports of a listing, under both problems about cells.
-ghost use Rattle.std.specs.Prelude.{◌≡◌, ◌++◌, IfOk, string_bytes};
+// What is told of a problem, at the front of a page that is lent.
+ghost use Rattle.std.specs.Prelude.{◌≡◌, ◌≤◌, ◌+◌, length, OnOk};
 ghost use Rattle.std.specs.Str.{IsUtf8};
 ghost use Rattle.paths.specs.Handing.{handed_by};
-ghost use Rattle.findings.specs.Told.{heading, body, bytes_of, problem_text, Written, Tells};
+ghost use Rattle.findings.specs.Told.{body, reported, problem_text, room_in, Reports, Tells};
+ghost use Rattle.findings.specs.Written.{taken, Fronts, Returned};
 
-use crate::fill::fill;
-use crate::room::Room;
+use crate::fill::settle_all;
+use crate::lines::write_report;
+use crate::written::{Written, write_refused};
 use flow::interface::Problem;
 use listing::program::Program;
+use page::{heading_len, refusal_len, write_heading};
 use paths::analysis::Analysis;
-use records::fault::Fault;
+use records::fault::{Fault, Refusal};
 use records::record::Record;
-use std::alloc::{AllocError, Global};
-use std::fmt::Write;
+use report::length::report_len;
+use table::state::ClosedTable;
 
-// Bytes that are known to be a text.
-fn text_of(bytes: &[u8]) -> &str
-    requires { IsUtf8 bytes.now }
-    ensures { result.now ≡ bytes.now }
+// A table with the default starts sown and every cell settled, whose report takes at most so many bytes; or why there is none, and the memory.
+fn reportable<P: Program, Q: Problem>(
+    memory: Vec<Record>,
+    on: &Analysis<P, Q>,
+    most: usize,
+) -> Result<ClosedTable, Refusal<Vec<Record>>>
+    ensures { Reports (handed_by P.Program Q.Problem on.now) (Q.starts on.now.problem.now) most memory result }
 {
-    let Ok(text) = str::from_utf8(bytes) else {
+    let table = settle_all(memory, on)?;
+    if most < report_len(&table) {
+        return Err(Refusal {
+            fault: Fault::Full,
+            back: table.end(),
+        });
+    }
+    Ok(table)
+}
+
+// How many bytes are told of a problem, with the memory back.
+pub(crate) fn problem_len<P: Program, Q: Problem>(
+    memory: Vec<Record>,
+    on: &Analysis<P, Q>,
+    most: usize,
+) -> (usize, Vec<Record>)
+    ensures length { result.0 ≡ length (problem_text Q.NUMBER (handed_by P.Program Q.Problem on.now) (Q.starts on.now.problem.now) (room_in memory most)) }
+    ensures returned { Returned (taken (handed_by P.Program Q.Problem on.now) (length memory.items)) memory result.1 }
+{
+    let heading = heading_len(Q::NUMBER);
+    match reportable(memory, on, most) {
+        Ok(table) => (heading + report_len(&table), table.end()),
+        Err(refusal) => (heading + refusal_len(refusal.fault.refused()), refusal.back),
+    }
+}
+
+// Writes the report of a problem, or why there is none, at the front of a page.
+fn write_body<P: Program, Q: Problem>(
+    memory: Vec<Record>,
+    on: &Analysis<P, Q>,
+    most: usize,
+    page: &mut [u8],
+) -> Result<Written, Refusal<Vec<Record>>>
+    ensures text { let h = handed_by P.Program Q.Problem on.now in Fronts (body (reported h (Q.starts on.now.problem.now) (room_in memory most))) (taken h (length memory.items)) memory page.old result page.new }
+    ensures utf8 { OnOk result (IsUtf8 (body (reported (handed_by P.Program Q.Problem on.now) (Q.starts on.now.problem.now) (room_in memory most)))) }
+    ensures law { OnOk result (Tells (handed_by P.Program Q.Problem on.now) (Q.starts on.now.problem.now) (room_in memory most)) }
+{
+    match reportable(memory, on, most) {
+        Ok(table) => write_report(table, page),
+        Err(refusal) => write_refused(refusal.back, refusal.fault.refused(), page),
+    }
+}
+
+// Writes the number of a problem, and then its report or why there is none, at the front of a page. What stands behind is written first, so that
+// a page that is too short stays as it was.
+pub(crate) fn write_problem<P: Program, Q: Problem>(
+    memory: Vec<Record>,
+    on: &Analysis<P, Q>,
+    most: usize,
+    page: &mut [u8],
+) -> Result<Written, Refusal<Vec<Record>>>
+    ensures text { let h = handed_by P.Program Q.Problem on.now in Fronts (problem_text Q.NUMBER h (Q.starts on.now.problem.now) (room_in memory most)) (taken h (length memory.items)) memory page.old result page.new }
+    ensures utf8 { OnOk result (IsUtf8 (problem_text Q.NUMBER (handed_by P.Program Q.Problem on.now) (Q.starts on.now.problem.now) (room_in memory most))) }
+    ensures law { OnOk result (Tells (handed_by P.Program Q.Problem on.now) (Q.starts on.now.problem.now) (room_in memory most)) }
+{
+    let number = Q::NUMBER;
+    let start = heading_len(number);
+    if page.len() < start {
+        return Err(Refusal {
+            fault: Fault::Full,
+            back: memory,
+        });
+    }
+    let body = write_body(memory, on, most, &mut page[start..])?;
+    let Some(_) = write_heading(page, number) else {
         unreachable()
     };
-    text
-}
-
-// The report of a problem over a program, or why there is none.
-fn written<P: Program, Q: Problem>(
-    heap: Global,
-    on: &Analysis<P, Q>,
-    room: Room,
-) -> Result<Result<String, Fault>, AllocError>
-    ensures { IfOk result (λ o. Written (handed_by P.Program Q.Problem on.now) (Q.starts on.now.problem.now) room (bytes_of o)) }
-{
-    let memory = Record::blanks(heap, room.records)?;
-    let mut page = vec![in heap; 0u8; room.page]?;
-    match fill(memory, on, page.as_mut_slice()) {
-        Ok(end) => Ok(Ok(String::from_str(heap, text_of(&page[..end]))?)),
-        Err(fault) => Ok(Err(fault)),
-    }
-}
-
-// A problem's number in a line, and then its report, or why there is none.
-fn told(heap: Global, number: u8, report: Result<String, Fault>) -> Result<String, AllocError>
-    ensures { IfOk result (λ s. string_bytes s ≡ heading number ++ body (bytes_of report)) }
-{
-    let mut out = String::new(heap);
-    writeln!(out, "problem {number}")?;
-    match report {
-        Ok(text) => out.push_str(text.as_str())?,
-        Err(fault) => writeln!(out, "{fault}")?,
-    }
-    Ok(out)
-}
-
-// Tells the number of a problem, and its report over a program, or why there is none.
-pub fn report<P: Program, Q: Problem>(
-    heap: Global,
-    on: &Analysis<P, Q>,
-    room: Room,
-) -> Result<String, AllocError>
-    ensures text { IfOk result (λ s. string_bytes s ≡ problem_text Q.NUMBER (handed_by P.Program Q.Problem on.now) (Q.starts on.now.problem.now) room) }
-    ensures law { IfOk result (λ _. Tells (handed_by P.Program Q.Problem on.now) (Q.starts on.now.problem.now) room) }
-{
-    let report = written(heap, on, room)?;
-    told(heap, Q::NUMBER, report)
+    Ok(Written {
+        count: start + body.count,
+        memory: body.memory,
+    })
 }

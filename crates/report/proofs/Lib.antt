@@ -1,3 +1,4 @@
 pub mod Places
 pub mod Numbered
 pub mod Feet
+pub mod Lengths

@@ -88,7 +88,11 @@ module _ (t : Tabled) (k : ℕ) (some : 0 < t.facts) (within : k < t.points * t.
   pub none_here : is_some (least t (k / t.facts) (k % t.facts)) ≡ false → pairs_before (suc k) t ≡ pairs_before k t
   none_here e = told_so false e ∙ append-nil (pairs_before k t)
 
-  -- it has one: then it is the first of those left
+  -- it has one
+  pub some_here : is_some (least t (k / t.facts) (k % t.facts)) ≡ true → pairs_before (suc k) t ≡ pairs_before k t ++ (pair t k ∷ [])
+  some_here e = told_so true e
+
+  -- then it is the first of those left
   pub one_here : is_some (least t (k / t.facts) (k % t.facts)) ≡ true → length (pairs_before (suc k) t) ≡ suc (length (pairs_before k t))
   one_here e = ap length (told_so true e) ∙ length-append (pairs_before k t) (pair t k ∷ []) ∙ (omega arith)
 

@@ -2,6 +2,7 @@
 #![tactic(auto)]
 
 mod foot;
+pub mod length;
 mod lines;
 mod pair;
 mod place;
