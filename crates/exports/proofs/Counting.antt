@@ -1,32 +1,34 @@
 -- The count of a listing's program, from what is known of the program and the problem that were made.
-use Rattle.std.proofs.Common.{◌≡◌, ℕ, List, Some, None, Option, Ok, IfSome, sym, ap, ◌∙◌}
+use Rattle.std.proofs.Common.{◌≡◌, ℕ, Bool, true, List, Ok, Result, sym, ap, ◌∙◌, subst}
+use Rattle.draft.specs.declared.question.Refusal.{Refusal}
+use Rattle.listing.specs.Meaning.{Meaning}
 use Rattle.text.specs.Reading.{reading, meaning_of}
 use Rattle.flow.specs.CellFacts.{facts_in, from_each}
 use Rattle.flow.specs.Choices.{rule_of}
 use Rattle.flow.specs.declared.choice.Choice.TheVariants.{Unset}
 use Rattle.paths.specs.Does.{handed}
-use Rattle.exports.specs.Counted.{Fits, cells_settled, settled_by_rows, settled_of_all, CountOfAll, CountOfUnset}
-use Rattle.exports.specs.Rows.{rows_of}
+use Rattle.given_problem.specs.Given.{fits}
+use Rattle.given_problem.specs.Rows.{rows_of}
+use Rattle.exports.specs.Counted.{cells_settled, settled_by_rows, settled_of_unset, Gives, Of, WhereFits}
+use Rattle.exports.specs.declared.answer.Outcome.{Outcome}
 
-over : (o : Option ℕ) (A B : ℕ → Type 0) → ((n : ℕ) → A n → B n) → IfSome o A → IfSome o B
-over None A B f h = h
-over (Some n) A B f h = f n h
+-- what is known of the text that holds a listing is known of the listing
+pub of_read : (Comes : Meaning → Outcome → Type 0) (listing text : List ℕ) (o : Outcome) → reading listing ≡ Ok (meaning_of listing) → text ≡ listing → Comes (meaning_of text) o
+    → Of Comes (reading listing) o
+of_read Comes listing text o reads holds comes =
+    subst (λ (r : Result Meaning Refusal). Of Comes r o) (sym reads) (subst (λ (t : List ℕ). Comes (meaning_of t) o) holds comes)
 
--- the text holds the listing, and the problem the relation's rows
-module _ (listing text : List ℕ) (reads : reading listing ≡ Ok (meaning_of listing)) (holds : text ≡ listing) where
-  reads_text : reading listing ≡ Ok (meaning_of text)
-  reads_text = reads ∙ ap (λ (t : List ℕ). Ok (meaning_of t)) (sym holds)
+-- the rows are those of a relation that fits
+pub where_fits : (m : Meaning) (given rows : List ℕ) (f facts : ℕ) (o : Outcome) → rows ≡ rows_of given → facts ≡ f → fits m given f ≡ true → Gives (settled_by_rows m rows facts) o
+    → WhereFits (fits m given f) (Gives (settled_by_rows m (rows_of given) f)) o
+where_fits m given rows f facts o same many fitting gives =
+    subst (λ (b : Bool). WhereFits b (Gives (settled_by_rows m (rows_of given) f)) o) (sym fitting)
+    (subst (λ (n : ℕ). Gives n o)
+    (ap (λ (r : List ℕ). settled_by_rows m r facts) same ∙ ap (λ (k : ℕ). settled_by_rows m (rows_of given) k) many) gives)
 
-  pub of_all : (given rows : List ℕ) (facts f : ℕ) → rows ≡ rows_of given → facts ≡ f → Fits (meaning_of text) given f → (o : Option ℕ)
-      → IfSome o (λ n. n ≡ settled_by_rows (meaning_of text) rows facts) → IfSome o (λ n. CountOfAll listing given f n)
-  of_all given rows facts f same many fits o =
-      let is : settled_by_rows (meaning_of text) rows facts ≡ settled_of_all (meaning_of text) given f =
-      ap (λ (r : List ℕ). settled_by_rows (meaning_of text) r facts) same ∙ ap (λ (k : ℕ). settled_by_rows (meaning_of text) (rows_of given) k) many in
-      over o _ _ (λ n e. (meaning_of text, reads_text, fits, e ∙ is))
-
-  pub of_unset : (globals locals : ℕ) → globals ≡ (meaning_of text).globals → locals ≡ (meaning_of text).locals → (o : Option ℕ)
-      → IfSome o (λ n. n ≡ cells_settled (handed (meaning_of text) (rule_of Unset globals locals) (facts_in globals locals)) (from_each 0 (facts_in globals locals)))
-      → IfSome o (λ n. CountOfUnset listing n)
-  of_unset globals locals of_g of_l o =
-      let count : ℕ → ℕ → ℕ = λ g l. cells_settled (handed (meaning_of text) (rule_of Unset g l) (facts_in g l)) (from_each 0 (facts_in g l)) in
-      over o _ _ (λ n e. (meaning_of text, reads_text, e ∙ ap (λ (g : ℕ). count g locals) of_g ∙ ap (λ (l : ℕ). count (meaning_of text).globals l) of_l))
+-- the problem has the counts of the program
+pub of_counts : (m : Meaning) (g l : ℕ) (o : Outcome) → g ≡ m.globals → l ≡ m.locals
+    → Gives (cells_settled (handed m (rule_of Unset g l) (facts_in g l)) (from_each 0 (facts_in g l))) o → Gives (settled_of_unset m) o
+of_counts m g l o globals locals gives =
+    let count : ℕ → ℕ → ℕ = λ x y. cells_settled (handed m (rule_of Unset x y) (facts_in x y)) (from_each 0 (facts_in x y)) in
+    subst (λ (n : ℕ). Gives n o) (ap (λ (x : ℕ). count x l) globals ∙ ap (λ (y : ℕ). count m.globals y) locals) gives

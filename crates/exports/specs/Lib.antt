@@ -1,3 +1,3 @@
-pub mod Copied
+pub mod Answers
 pub mod Counted
-pub mod Rows
+pub mod Sheets

@@ -1,14 +1,7 @@
-// What a C program may call: the reports of a listing, a row of calls of a table, and how many cells are settled.
+// What a C program may call: the sheet of a listing, and how many cells are settled. Each is told in an `Answer`.
 #![tactic(auto)]
 
-mod answer;
-mod call;
-mod copying;
-mod counts;
-mod given;
-mod rows;
-mod run;
+pub mod answer;
+mod calls;
 mod settling;
-mod tabulation;
-mod told;
-mod words;
+mod telling;

@@ -12,7 +12,7 @@ pub struct Room {
 impl Room {
     // The room for each report of a sheet.
     #[tactic(auto, unfolding(crate::specs::Rooms::sheet_room))]
-    pub(crate) fn of_sheet() -> Room
+    pub fn of_sheet() -> Room
         ensures { result ≡ sheet_room }
     {
         Room {

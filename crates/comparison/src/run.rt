@@ -4,9 +4,9 @@ ghost use Rattle.table.specs.State.{code_in};
 
 use crate::answer::Answer;
 use crate::call::Call;
-use crate::given::{problem_of, program_of};
 use crate::tabulation::{Given, Tabulation};
 use flow::interface::Problem;
+use given_problem::given::problem_of;
 use listing::program::Program;
 use moves::moves::Kind;
 use paths::analysis::Analysis;
@@ -14,6 +14,7 @@ use records::record::Record;
 use records::tallies::Tallies;
 use std::alloc::{AllocError, Global};
 use table::state::{OpenTable, records_for};
+use text::text::Text;
 
 // The word between what the calls gave and the records.
 const END_OF_CALLS: u32 = 9999;
@@ -107,8 +108,9 @@ pub(crate) fn tabulated(
     facts: u8,
     run: &[u32],
 ) -> Option<Vec<u32>> {
-    let program = program_of(listing)?;
-    let problem = problem_of(alloc, &program, relation, facts)?;
+    let mut program = Text::shortest();
+    program.read(listing).ok()?;
+    let problem = problem_of(alloc, &program, relation, facts).ok()?;
     let on = &Analysis {
         program: &program,
         problem: &problem,

@@ -1,5 +1,5 @@
-// A row of calls of a table, for a C program.
-ghost use Rattle.std.specs.Prelude.{◌≤◌, length};
+// A row of calls of a table, for the programs that compare.
+ghost use Rattle.std.specs.Prelude.{◌≡◌, ◌≤◌, length, drop};
 
 use crate::copying::copy_front;
 use crate::run::tabulated;
@@ -16,7 +16,9 @@ pub extern "C" fn tabulate(
     run: &[u32],
     out: &mut [u32],
 ) -> usize
-    ensures { result ≤ length out.new }
+    ensures within { result ≤ length out.new }
+    ensures kept { result ≡ 0 → out.new ≡ out.old }
+    ensures rest { drop result out.new ≡ drop result out.old }
 {
     match tabulated(alloc, listing, relation, facts, run) {
         Some(words) => copy_front(words.as_slice(), out),

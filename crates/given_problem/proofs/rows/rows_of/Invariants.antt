@@ -1,6 +1,6 @@
 use Rattle.std.proofs.Common.{◌≡◌}
-use Rattle.exports.specs.Rows.{first_rows}
-use Rattle.exports.proofs.rows.rows_of.Given as goal
+use Rattle.given_problem.specs.Rows.{first_rows}
+use Rattle.given_problem.proofs.rows.rows_of.Given as goal
 
 -- the rows so far
 abbrev pub invariant-loop-row : goal.invariant-loop-row

@@ -1,6 +1,6 @@
 // The rows of a relation, out of bytes that are lent.
 ghost use Rattle.std.specs.Prelude.{◌≡◌, ◌<◌, ◌^◌, get_or, IfOk};
-ghost use Rattle.exports.specs.Rows.{row_at, rows_of};
+ghost use Rattle.given_problem.specs.Rows.{row_at, rows_of};
 
 use std::alloc::{AllocError, Global};
 
@@ -30,7 +30,7 @@ fn row_at(bytes: &[u8], row: usize) -> u64
 }
 
 // The rows that bytes give.
-pub(crate) fn rows_of(alloc: Global, bytes: &[u8]) -> Result<Vec<u64>, AllocError>
+pub fn rows_of(alloc: Global, bytes: &[u8]) -> Result<Vec<u64>, AllocError>
     ensures { IfOk result (λ rows. rows.items ≡ rows_of bytes.now) }
 {
     let mut rows = Vec::new(alloc);
