@@ -1,5 +1,6 @@
 //! The functions of the verified library, and nothing else of it. They are linked where `VERIFIED_LIB` named its static library when this was
-//! built (see README.md); otherwise `linked()` is none.
+//! built (see README.md); otherwise `linked()` is none. Three are the product's, as `../include/jathrungi.h` declares them, and tell what comes of
+//! them in an `Answer`; `tabulate` serves the comparison alone.
 //!
 //! All four take their inputs and lend their outputs as pointer and length; a length counts bytes of `u8` and words of `u32` (so `run_len` is
 //! three times the number of calls). A pointer may be dangling where its length is 0. Inputs and outputs do not overlap, and nothing is kept
@@ -10,7 +11,7 @@
 //! ((n * 4 + kind) * F + d) * 8, and there are N * 4 * F * 8 bytes. Bits of a kind that the statement at n lacks, and bits from F on, may be
 //! set and do not count: the answer is no.
 //!
-//! **`sheet`** writes what the program `sheet` prints and gives the number of bytes; 0 if it does not fit.
+//! **`jathrungi_sheet`** writes what the program `sheet` prints and gives the number of bytes; it is refused if that does not fit.
 //!
 //! **`tabulate`** reads the listing, makes a problem of `facts` facts of the relation bytes, opens a table of exactly N * F * F records, and
 //! performs the calls in `run`, three words each:
@@ -34,8 +35,8 @@
 //!
 //! It gives how many words were written, or 0 if the listing is refused, the relation has another length, or `out` is too small.
 //!
-//! **`settle_all`** tabulates from every fact of procedure 0, oldest first, and gives the number of cells. **`settle_unset`** does it for the
-//! problem unset with its default starts. Both give 0 for a listing that is refused.
+//! **`jathrungi_settle_all`** tabulates from every fact of procedure 0, oldest first, and gives the number of cells. **`jathrungi_settle_unset`**
+//! does it for the problem unset with its default starts. Both are refused for a listing that is.
 
 /// What the driver asks of a library.
 pub trait Library {
@@ -51,8 +52,28 @@ pub trait Library {
 mod linked {
     use super::Library;
 
+    /// What comes of a call of the product.
+    #[repr(C)]
+    struct Answer {
+        status: u8,
+        question: u8,
+        place: usize,
+        value: usize,
+    }
+
+    impl Answer {
+        /// What is given; 0 where it is refused. Memory is never wanting here.
+        fn given(&self) -> usize {
+            match self.status {
+                0 => self.value,
+                1 => 0,
+                _ => panic!("out of memory: {} {}", self.question, self.place),
+            }
+        }
+    }
+
     extern "C" {
-        fn sheet(listing: *const u8, listing_len: usize, out: *mut u8, out_len: usize) -> usize;
+        fn jathrungi_sheet(listing: *const u8, listing_len: usize, page: *mut u8, page_len: usize) -> Answer;
         fn tabulate(
             listing: *const u8,
             listing_len: usize,
@@ -64,14 +85,14 @@ mod linked {
             out: *mut u32,
             out_len: usize,
         ) -> usize;
-        fn settle_all(
+        fn jathrungi_settle_all(
             listing: *const u8,
             listing_len: usize,
             relation: *const u8,
             relation_len: usize,
             facts: u8,
-        ) -> u32;
-        fn settle_unset(listing: *const u8, listing_len: usize) -> u32;
+        ) -> Answer;
+        fn jathrungi_settle_unset(listing: *const u8, listing_len: usize) -> Answer;
     }
 
     /// Outputs are lent with this many words behind them, which must stay as they are.
@@ -104,7 +125,7 @@ mod linked {
         fn sheet(&mut self, listing: &[u8]) -> Vec<u8> {
             let room = self.bytes.len() - FENCE;
             // SAFETY: the pointers and lengths are those of slices that outlive the call and do not overlap.
-            let n = unsafe { sheet(listing.as_ptr(), listing.len(), self.bytes.as_mut_ptr(), room) };
+            let n = unsafe { jathrungi_sheet(listing.as_ptr(), listing.len(), self.bytes.as_mut_ptr(), room) }.given();
             assert!(
                 n <= room && self.bytes[room..].iter().all(|b| *b == 0xa5),
                 "sheet wrote beyond its memory"
@@ -137,20 +158,21 @@ mod linked {
 
         fn settle_all(&mut self, listing: &[u8], relation: &[u8], facts: u8) -> u32 {
             // SAFETY: as above.
-            unsafe {
-                settle_all(
+            let answer = unsafe {
+                jathrungi_settle_all(
                     listing.as_ptr(),
                     listing.len(),
                     relation.as_ptr(),
                     relation.len(),
                     facts,
                 )
-            }
+            };
+            answer.given() as u32
         }
 
         fn settle_unset(&mut self, listing: &[u8]) -> u32 {
             // SAFETY: as above.
-            unsafe { settle_unset(listing.as_ptr(), listing.len()) }
+            unsafe { jathrungi_settle_unset(listing.as_ptr(), listing.len()) }.given() as u32
         }
     }
 }

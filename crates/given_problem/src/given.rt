@@ -47,7 +47,7 @@ pub fn problem_of<P: Program>(
         return Err(Fault::Memory);
     };
     // there may be so many facts
-    let Some(problem) = TabledProblem::new(rows, facts) else {
+    let Ok(problem) = TabledProblem::new(rows, facts) else {
         unreachable()
     };
     Ok(problem)
