@@ -117,3 +117,33 @@ pub(crate) fn tabulated(
     };
     perform_all(alloc, on, run)
 }
+
+#[cfg(test)]
+mod tests {
+    use super::*;
+    use std::test::Fail;
+
+    // Procedure 0 calls procedure 1. Over two facts zero follows from zero into the callee and back, and nothing else does.
+    const LISTING: &[u8] = b"cells 0 1\ncall l0 1 l0\nret l0\nret l0\n";
+
+    // Procedure 1 is sown and then procedure 0, all is settled, the oldest first, and the table closed.
+    const RUN: [u32; 12] = [1, 1, 0, 1, 0, 0, 2, 100, 0, 4, 0, 0];
+
+    // What each call gives, with the cells found, settled and waiting after it.
+    const GIVEN: [u32; 17] = [1, 1, 0, 1, 1, 2, 0, 2, 3, 3, 3, 0, 0, 3, 3, 0, 9999];
+
+    // Of the records, worked out by hand, three are found: the two starts, cells 0 and 8, and the return to cell 4 from both.
+    #[test]
+    fn a_return(rt: HostRuntime) -> Result<(), Fail> {
+        let mut relation = [0u8; 192];
+        relation[32] = 1;
+        relation[48] = 1;
+        let words = tabulated(rt.alloc(), LISTING, &relation, 2, &RUN).ok_or("refused")?;
+        assert_eq!(rt; words.len(), 65);
+        assert_eq!(rt; &words.as_slice()[..17], GIVEN.as_slice());
+        assert_eq!(rt; &words.as_slice()[17..21], [2, 1, 0, 0].as_slice());
+        assert_eq!(rt; &words.as_slice()[33..37], [3, 5, 0, 8].as_slice());
+        assert_eq!(rt; &words.as_slice()[49..53], [1, 1, 0, 0].as_slice());
+        Ok(())
+    }
+}
