@@ -66,7 +66,3 @@ module _ (a b page part' : List ℕ) (start : ℕ) (begins : start ≡ length a)
 -- a memory that comes back twice
 pub returned_twice : (k : ℕ) (a b c : Memory) → Returned k a b → Returned k b c → Returned k a c
 returned_twice k a b c x y = record { count = y.count ∙ x.count; rest = y.rest ∙ x.rest }
-
--- a memory that is as it was
-pub untouched : (k : ℕ) (a b : Memory) → b ≡ a → Returned k a b
-untouched k a b e = record { count = ap (λ (m : Memory). length (vec_items m)) e; rest = ap (λ (m : Memory). drop k (vec_items m)) e }

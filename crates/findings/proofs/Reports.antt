@@ -31,12 +31,6 @@ tells h starts room text is so = record {
       subst (Reported h (accepted h starts (replicate room.records blank))) same so);
 }
 
--- there is none
-pub none_told : (h : Handed) (starts : List Start) (room : Room) (f : Fault) → reported h starts room ≡ Err f → Tells h starts room
-none_told h starts room f is = record {
-  exact = λ report e. (let z : Err f ≡ Ok report = sym is ∙ e in let n : ◌≡◌ {A = ℕ} 0 1 = cc in absurd (omega arith));
-}
-
 -- what holds anyway
 pub on_ok : {A B : Type 0} → (o : Result A B) (P : Type 0) → P → OnOk o P
 on_ok (Ok x) P p = p

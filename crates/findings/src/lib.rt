@@ -6,5 +6,5 @@ pub mod lent;
 mod lines;
 pub mod listed;
 pub mod room;
-mod told;
+pub mod told;
 pub mod written;

@@ -8,14 +8,17 @@ use crate::room::Room;
 use records::record::Record;
 use std::alloc::{AllocError, Global};
 
+// A problem's heading, and the line that tells why it has no report, have no more bytes.
+const HEADING_AND_REFUSAL: usize = 108;
+
 // Reads a listing and tells the reports of both problems about its cells, or the refusal of the listing.
 pub fn report_listing(heap: Global, bytes: &[u8], room: Room) -> Result<String, AllocError>
     ensures text { IfOk result (λ s. string_bytes s ≡ told_of bytes.now room) }
     ensures law { IfOk result (λ s. ListingTold bytes.now room (string_bytes s)) }
 {
     let memory = Record::blanks(heap, room.records)?;
-    let most = room.page.saturating_add(108).saturating_mul(2);
-    let mut page = vec![in heap; 0u8; most]?;
+    let size = room.page.saturating_add(HEADING_AND_REFUSAL).saturating_mul(2);
+    let mut page = vec![in heap; 0u8; size]?;
     // a sheet has no more bytes than the page
     let Ok(written) = write_sheet(memory, page.as_mut_slice(), bytes, room.page) else {
         unreachable()

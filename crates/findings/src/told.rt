@@ -1,5 +1,5 @@
 // What is told of a problem, at the front of a page that is lent.
-ghost use Rattle.std.specs.Prelude.{◌≡◌, ◌≤◌, ◌+◌, length, OnOk};
+ghost use Rattle.std.specs.Prelude.{◌≡◌, length, OnOk};
 ghost use Rattle.std.specs.Str.{IsUtf8};
 ghost use Rattle.paths.specs.Handing.{handed_by};
 ghost use Rattle.findings.specs.Told.{body, reported, problem_text, room_in, Reports, Tells};
@@ -35,8 +35,8 @@ fn reportable<P: Program, Q: Problem>(
     Ok(table)
 }
 
-// How many bytes are told of a problem, with the memory back.
-pub(crate) fn problem_len<P: Program, Q: Problem>(
+// How many bytes are told of a problem over a program, with the memory back: of any problem, and any make of a program.
+pub fn problem_len<P: Program, Q: Problem>(
     memory: Vec<Record>,
     on: &Analysis<P, Q>,
     most: usize,
@@ -68,9 +68,9 @@ fn write_body<P: Program, Q: Problem>(
     }
 }
 
-// Writes the number of a problem, and then its report or why there is none, at the front of a page. What stands behind is written first, so that
-// a page that is too short stays as it was.
-pub(crate) fn write_problem<P: Program, Q: Problem>(
+// Writes the number of a problem, and then its report over a program or why there is none, at the front of a page: of any problem, and any make
+// of a program. What stands behind is written first, so that a page that is too short stays as it was.
+pub fn write_problem<P: Program, Q: Problem>(
     memory: Vec<Record>,
     on: &Analysis<P, Q>,
     most: usize,

@@ -45,5 +45,5 @@ impl fmt::Display for Fault {
 #[derive(Drop)]
 pub struct Refusal {
     pub fault: Fault,
-    pub rows: Vec<u64>,
+    pub back: Vec<u64>,
 }

@@ -27,14 +27,14 @@ impl TabledProblem {
     pub fn new(rows: Vec<u64>, facts: u8) -> Result<TabledProblem, Refusal>
         ensures { MatchResult result
             (λ q. (count_in_range facts ≡ true) × (q.rows.items ≡ rows.items) × (q.facts ≡ facts))
-            (λ e. (count_in_range facts ≡ false) × (e.fault ≡ Facts) × (e.rows ≡ rows)) }
+            (λ e. (count_in_range facts ≡ false) × (e.fault ≡ Facts) × (e.back ≡ rows)) }
     {
         if (1..=64).contains(&facts) {
             Ok(TabledProblem { rows, facts })
         } else {
             Err(Refusal {
                 fault: Fault::Facts,
-                rows,
+                back: rows,
             })
         }
     }
