@@ -3,7 +3,7 @@ use Rattle.std.proofs.Common.{◌≡◌, ℕ, List, Ok, Err, Result, OnErr, refl
 use Rattle.draft.specs.declared.question.Refusal.{Refusal}
 use Rattle.listing.specs.Meaning.{Meaning}
 use Rattle.text.specs.Reading.{reading}
-use Rattle.text.specs.Telling.{told_by}
+use Rattle.telling.specs.Telling.{told_by}
 use Rattle.findings.specs.Listed.{both_told, told_of}
 use Rattle.findings.specs.declared.room.Room.{Room}
 
