@@ -4,8 +4,8 @@ ghost use Rattle.exports.specs.Counted.{CountOfAll, CountOfUnset};
 ghost use Rattle.exports.specs.Sheets.{Sheet};
 
 use crate::answer::Answer;
+use crate::on_page::sheet_on;
 use crate::settling::{count_of_all, count_of_unset};
-use crate::telling::sheet_on;
 use std::alloc::Global;
 
 // Writes the sheet of a listing at the front of a page, and gives how many bytes it took. On any no the page is as it was.

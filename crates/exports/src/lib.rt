@@ -3,5 +3,5 @@
 
 pub mod answer;
 mod calls;
+mod on_page;
 mod settling;
-mod telling;

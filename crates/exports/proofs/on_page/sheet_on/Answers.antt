@@ -3,7 +3,7 @@ use Rattle.page.specs.Writes.{Put, Kept}
 use Rattle.records.specs.Faults.{refused_of}
 use Rattle.findings.specs.Listed.{told_of}
 use Rattle.exports.proofs.Enough.{told_enough}
-use Rattle.exports.proofs.telling.sheet_on.Goals as goal
+use Rattle.exports.proofs.on_page.sheet_on.Goals as goal
 
 -- what is told in the room of a sheet
 pub returns-in-Ok-write_sheet : goal.returns-in-Ok-write_sheet
