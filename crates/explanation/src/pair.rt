@@ -1,9 +1,8 @@
 // The trail of a pair, over a problem tabulated from its default starts.
-ghost use Rattle.std.specs.Prelude.{◌≡◌, IfOk, string_bytes, length, replicate};
+ghost use Rattle.std.specs.Prelude.{◌≡◌, IfOk, string_bytes};
 ghost use Rattle.findings.specs.Outcome.{Settled};
 ghost use Rattle.move_text.specs.Lines.{facts_text};
 ghost use Rattle.paths.specs.Handing.{handed_by};
-ghost use Rattle.records.specs.Blank.{blank};
 ghost use Rattle.records.specs.Faults.{number_of};
 ghost use Rattle.table.specs.State.{state};
 ghost use Rattle.explanation.specs.Explained.{records_of, accepted_of, room, memory_of, refused_line, explained, Explains};

@@ -20,8 +20,8 @@ use Rattle.draft.proofs.Failing.{Least, passing, failing_least}
 use Rattle.draft.proofs.Flows.{exit_here, exit_ret, exit_inside, ret_counted}
 use Rattle.grammar.specs.declared.name.Name.{Name}
 use Rattle.text.specs.Lines.{lines}
-use Rattle.text.specs.Reading.{written, flow_of, renumbered, formed, or_true, owned_of, outsized, misformed, unranged, miscounted, on_line, or_next, refused, answered}
-use Rattle.text.specs.Law.{only_at, of_line, of_statement, few_before, holds, Yes, FirstNo, ReadsByLaw}
+use Rattle.text.specs.Reading.{written, flow_of, renumbered, formed, or_true, owned_of, outsized, misformed, unranged, miscounted, on_line, or_next, refused}
+use Rattle.text.specs.Law.{only_at, of_line, of_statement, few_before, holds, Yes, FirstNo}
 use Rattle.text.proofs.Refusals.{passed}
 use Rattle.text.proofs.Written.{written_length}
 

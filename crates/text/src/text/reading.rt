@@ -1,9 +1,9 @@
 // Reading: every question is put, and then a text that the caller holds is filled.
-ghost use Rattle.std.specs.Prelude.{◌≡◌, true, [], ◌∷◌, Ok, Err, codes, MatchResult};
+ghost use Rattle.std.specs.Prelude.{◌≡◌, [], ◌∷◌, Ok, Err, codes, MatchResult};
 ghost use Rattle.listing.specs.Meaning.{totals};
 ghost use Rattle.text.specs.Law.{ReadsByLaw};
 ghost use Rattle.text.specs.Cases.{listed};
-ghost use Rattle.text.specs.Reading.{on_line, meaning_of, refused, accepted, answered, reading};
+ghost use Rattle.text.specs.Reading.{on_line, meaning_of, refused, answered, reading};
 ghost use Rattle.text.specs.Text.{bytes_of};
 
 use crate::delivered::Delivered;

@@ -1,4 +1,4 @@
-use Rattle.std.proofs.Common.{◌≡◌, List, ℕ, None, Some, Ok, Err, Option, Result, IsOk, MatchResult, [], ◌∷◌, codes, refl, sym, ap, ◌∙◌, arith}
+use Rattle.std.proofs.Common.{◌≡◌, List, ℕ, None, Ok, Err, Option, Result, IsOk, MatchResult, [], ◌∷◌, codes, refl, sym, ap, ◌∙◌, arith}
 use Rattle.draft.specs.declared.question.Refusal.{Refusal}
 use Rattle.draft.specs.Rules.{unended, crowded, foreign, astray, missing}
 use Rattle.text.specs.Cases.{listed}
