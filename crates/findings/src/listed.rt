@@ -17,7 +17,10 @@ pub fn report_listing(heap: Global, bytes: &[u8], room: Room) -> Result<String, 
     ensures law { IfOk result (λ s. ListingTold bytes.now room (string_bytes s)) }
 {
     let memory = Record::blanks(heap, room.records)?;
-    let size = room.page.saturating_add(HEADING_AND_REFUSAL).saturating_mul(2);
+    let size = room
+        .page
+        .saturating_add(HEADING_AND_REFUSAL)
+        .saturating_mul(2);
     let mut page = vec![in heap; 0u8; size]?;
     // a sheet has no more bytes than the page
     let Ok(written) = write_sheet(memory, page.as_mut_slice(), bytes, room.page) else {
