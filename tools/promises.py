@@ -39,7 +39,7 @@ def functions(path, public):
             continue
         clauses = set()
         for later in lines[number + 1 :]:
-            word = later.strip().split(" ", 1)[0]
+            word = later.strip().split(" ", 1)[0].rstrip("*")
             if word in ("requires", "ensures"):
                 clauses.add(word)
             elif FUNCTION.match(later) or later == indent + "{" or later == indent + "}":
