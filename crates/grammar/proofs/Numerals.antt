@@ -1,16 +1,13 @@
--- The number that digits write, as std reads it.
-use Rattle.std.proofs.Common.{◌≡◌, ℕ, ◌+◌, ◌-◌, ◌*◌, ◌<◌, ◌≤◌, true, false, cond, ◌&&◌, List, [], ◌∷◌, length, Some, None, Result, sym, refl, ap, ◌∙◌, subst, arith, rules}
+-- The number that digits write.
+use Rattle.std.proofs.Common.{◌≡◌, ℕ, ◌+◌, ◌-◌, ◌*◌, ◌%◌, ◌<◌, ◌≤◌, true, false, cond, ◌&&◌, List, [], ◌∷◌, length, Some, None, sym, refl, ap, ◌∙◌, ⊎_elim, arith, rules}
 use Rattle.std.specs.Char.{is_ascii_digit}
-use Rattle.std.specs.List.{list_all}
-use Rattle.std.specs.Str.{all_ascii_digits, IsUtf8}
-use Rattle.std.specs.Result.{result_ok}
-use Rattle.std.specs.Str.Parse.{ParsesUnsigned}
-use Rattle.std.proofs.lemmas.Str.{IsUtf8-from_ascii}
-use Rattle.std.proofs.lemmas.Str.Parse.{IsNumeralModel, numerals_by_fold, digits_value_short, parse_gives}
-use Rattle.std.proofs.lemmas.Fmt.{IsAscii-from_digits}
-use Rattle.std.proofs.lemmas.Bool.{cond-true, cond-false}
+use Rattle.std.specs.List.{fold}
+use Rattle.std.specs.Str.{all_ascii_digits}
+use Rattle.std.proofs.lemmas.Str.Parse.{IsNumeralModel, numerals_by_fold, digits_value_short}
+use Rattle.std.proofs.Math.Nat.{mod-eq_of_lt}
+use Rattle.std.proofs.lemmas.Bool.{cond-true, cond-false, cases_Bool}
 use Rattle.std.proofs.lemmas.Bool.Decides.{nat_tests}
-use Rattle.grammar.specs.Words.{value_on, short, number}
+use Rattle.grammar.specs.Words.{followed, value_on, short, number}
 
 abbrev pub read_on : ℕ → List ℕ → ℕ
 read_on n [] = n
@@ -25,27 +22,37 @@ value_is m (c ∷ cs) =
     elim (is_ascii_digit c) as (λ b. cond b (value_on (10 * m + (c - 48)) cs) None ≡ cond (b && all_ascii_digits cs) (Some (read_on (10 * m + (c - 48)) cs)) None)
     [ true ↦ value_is (10 * m + (c - 48)) cs | false ↦ refl ]
 
-digits_all : (w : List ℕ) → list_all is_ascii_digit w ≡ all_ascii_digits w
-digits_all [] = refl
-digits_all (c ∷ cs) = ap (λ b. is_ascii_digit c && b) (digits_all cs)
-
 pub number_long : (w : List ℕ) → short w ≡ false → None ≡ number w
 number_long w s = sym (cond-false _ _ _ s)
 
-pub number_odd : (w : List ℕ) → list_all is_ascii_digit w ≡ false → None ≡ number w
-number_odd w h =
-    let v : value_on 0 w ≡ None = value_is 0 w ∙ ap (λ b. cond b (Some (read_on 0 w)) None) (sym (digits_all w) ∙ h) in
-    elim (short w) as (λ s. None ≡ cond s (value_on 0 w) None) [ true ↦ sym v | false ↦ refl ]
+grows : (n : ℕ) (w : List ℕ) → n ≤ read_on n w
+grows n [] = omega arith
+grows n (c ∷ cs) = omega (arith, grows (10 * n + (c - 48)) cs)
 
-pub digits_utf8 : (w : List ℕ) → list_all is_ascii_digit w ≡ true → IsUtf8 w
-digits_utf8 w h = IsUtf8-from_ascii w (IsAscii-from_digits w (own.to w (sym (digits_all w) ∙ h)))
+none_on : (w : List ℕ) → fold followed None w ≡ None
+none_on [] = refl
+none_on (c ∷ cs) = none_on cs
 
--- what std reads of such a word is its number
-pub number_read : {E : Type 0} (w t : List ℕ) (r : Result ℕ E) → short w ≡ true → list_all is_ascii_digit w ≡ true → t ≡ w → ParsesUnsigned 16 10 t r → result_ok r ≡ number w
-number_read w t r s h e p =
-    let p : ParsesUnsigned 16 10 w r = subst (λ (bs : List ℕ). ParsesUnsigned 16 10 bs r) e p in
-    let ds : all_ascii_digits w ≡ true = sym (digits_all w) ∙ h in
-    let one : 0 < length w = grind (arith, nat_tests) in
+-- digit after digit in 16 bits is their number, where that has 16 bits
+digits_on : (n : ℕ) (w : List ℕ) → all_ascii_digits w ≡ true → read_on n w < 65536 → fold followed (Some n) w ≡ Some (read_on n w)
+digits_on n [] d h = refl
+digits_on n (c ∷ cs) d h =
+    let fits : (10 * n + (c - 48)) % 65536 ≡ 10 * n + (c - 48) = mod-eq_of_lt (omega (arith, h, grows (10 * n + (c - 48)) cs)) in
+    elim (is_ascii_digit c) as (λ b. b && all_ascii_digits cs ≡ true → fold followed (cond b (Some ((10 * n + (c - 48)) % 65536)) None) cs ≡ Some (read_on (10 * n + (c - 48)) cs))
+    [ true ↦ λ e. ap (λ m. fold followed (Some m) cs) fits ∙ digits_on (10 * n + (c - 48)) cs e h | false ↦ λ e. let z : ◌≡◌ {A = ℕ} 0 1 = cc in absurd (omega arith) ] d
+
+-- and none where one of the bytes is no digit
+other_on : (n : ℕ) (w : List ℕ) → all_ascii_digits w ≡ false → fold followed (Some n) w ≡ None
+other_on n [] d = let z : ◌≡◌ {A = ℕ} 0 1 = cc in absurd (omega arith)
+other_on n (c ∷ cs) d =
+    elim (is_ascii_digit c) as (λ b. b && all_ascii_digits cs ≡ false → fold followed (cond b (Some ((10 * n + (c - 48)) % 65536)) None) cs ≡ None)
+    [ true ↦ λ e. other_on ((10 * n + (c - 48)) % 65536) cs e | false ↦ λ e. none_on cs ] d
+
+-- what digit after digit gives of a word of one to four bytes is its number
+pub number_read : (w : List ℕ) → short w ≡ true → fold followed (Some 0) w ≡ number w
+number_read w s =
     let four : length w ≤ 4 = grind (arith, nat_tests) in
-    let small : read_on 0 w < 10000 = digits_value_short own w 4 ds four in
-    ap result_ok (parse_gives own 16 w r p ds one (omega arith)) ∙ sym (cond-true _ _ _ s ∙ (value_is 0 w ∙ cond-true _ _ _ ds))
+    ⊎_elim
+    (λ ds. digits_on 0 w ds (omega (arith, digits_value_short own w 4 ds four)) ∙ sym (cond-true _ _ _ s ∙ (value_is 0 w ∙ cond-true _ _ _ ds)))
+    (λ ds. other_on 0 w ds ∙ sym (cond-true _ _ _ s ∙ (value_is 0 w ∙ cond-false _ _ _ ds)))
+    (cases_Bool (all_ascii_digits w))

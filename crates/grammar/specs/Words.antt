@@ -1,5 +1,5 @@
 -- The words of a line, numbers, and cells as they are written.
-use Rattle.std.specs.Prelude.{ℕ, ◌+◌, ◌-◌, ◌*◌, Bool, cond, not, ◌&&◌, ◌||◌, List, [], ◌∷◌, length, Some, None, Option, ◌==◌, nat_le, slice_index}
+use Rattle.std.specs.Prelude.{ℕ, ◌+◌, ◌-◌, ◌*◌, ◌%◌, ◌^◌, Bool, cond, not, ◌&&◌, ◌||◌, List, [], ◌∷◌, length, Some, None, Option, ◌==◌, nat_le, slice_index}
 use Rattle.std.specs.Option.{option_map}
 use Rattle.std.specs.Char.{is_ascii_digit}
 use Rattle.grammar.specs.declared.name.Name.{Name}
@@ -19,6 +19,11 @@ words (b ∷ bs) = cond (b == 32) ([] ∷ words bs) (longer b (words bs))
 abbrev pub value_on : ℕ → List ℕ → Option ℕ
 value_on n [] = Some n
 value_on n (c ∷ cs) = cond (is_ascii_digit c) (value_on (10 * n + (c - 48)) cs) None
+
+-- a number with one more digit behind it, in 16 bits, or none where the byte is no digit
+abbrev pub followed : Option ℕ → ℕ → Option ℕ
+followed None c = None
+followed (Some n) c = cond (is_ascii_digit c) (Some ((10 * n + (c - 48)) % 2 ^ 16)) None
 
 -- one to four bytes, the first of them `0` (48) only where it is the only one
 abbrev pub short : List ℕ → Bool

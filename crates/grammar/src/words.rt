@@ -1,8 +1,7 @@
 // Words of a line.
 ghost use Rattle.std.specs.Prelude.{◌≡◌, ◌==◌, ℕ, List, Option};
-ghost use Rattle.std.specs.Char.{is_ascii_digit};
-ghost use Rattle.std.specs.List.{list_all, position};
-ghost use Rattle.grammar.specs.Words.{short, number, name};
+ghost use Rattle.std.specs.List.{position};
+ghost use Rattle.grammar.specs.Words.{followed, short, number, name};
 
 use crate::name::Name;
 
@@ -33,10 +32,15 @@ fn is_short(word: &[u8]) -> bool
     }
 }
 
-fn is_digits(word: &[u8]) -> bool
-    ensures { result ≡ list_all is_ascii_digit word.now }
+// A number with one more digit behind it, or none where the byte is no digit. Up to four digits nothing wraps.
+fn with_digit(number: Option<u16>, byte: &u8) -> Option<u16>
+    ensures { result ≡ followed number byte.now }
 {
-    word.iter().all(|byte| byte.is_ascii_digit())
+    if !byte.is_ascii_digit() {
+        return None;
+    }
+    let number = number?;
+    Some(number.wrapping_mul(10).wrapping_add(u16::from(byte - b'0')))
 }
 
 // One to four digits, no leading zero but in `0`.
@@ -44,10 +48,10 @@ impl Operand for u16 {
     ghost reads = { number };
 
     fn read(word: &[u8]) -> Option<u16> {
-        if !is_short(word) || !is_digits(word) {
+        if !is_short(word) {
             return None;
         }
-        str::from_utf8(word).ok()?.parse().ok()
+        word.iter().fold(Some(0), with_digit)
     }
 }
 

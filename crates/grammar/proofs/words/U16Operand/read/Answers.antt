@@ -1,20 +1,18 @@
-use Rattle.std.proofs.Common.{◌≡◌, sym, ◌∙◌, rules}
-use Rattle.grammar.proofs.Numerals.{number_long, number_odd, digits_utf8, number_read}
+use Rattle.std.proofs.Common.{◌≡◌, [], ◌∷◌, Some, sym, refl, subst, ◌∙◌, rules}
+use Rattle.std.specs.List.{fold}
+use Rattle.std.proofs.lemmas.List.Sums.{fold-append}
+use Rattle.std.proofs.lemmas.Fn.{fold_over, slice_gives, fronts}
+use Rattle.grammar.specs.Words.{followed}
+use Rattle.grammar.proofs.Numerals.{number_long, number_read}
 use Rattle.grammar.proofs.words.U16Operand.read.Goals as goal
-use Rattle.grammar.proofs.words.U16Operand.read.Goals.{then-not-is_short-via-then-not-is_short, then-not-is_short-via-else-not-is_short+then-not-is_digits}
 
 pub returns-then-not-is_short : goal.returns-then-not-is_short
-returns-then-not-is_short c =
-    elim c.then-not-is_short.branch [
-      | then-not-is_short-via-then-not-is_short w ↦ number_long c.args.word.now (sym w.if-not-is_short.ensures)
-      | then-not-is_short-via-else-not-is_short+then-not-is_digits w ↦ number_odd c.args.word.now (sym w.if-not-is_digits.ensures)
-    ]
-
-pub returns-in_err-ok : goal.returns-in_err-ok
-returns-in_err-ok c = let u = digits_utf8 c.args.word.now (sym c.if-not-is_digits.ensures) in search rules
+returns-then-not-is_short c = number_long c.args.word.now (sym c.if-not-is_short.ensures)
 
 pub returns : goal.returns
 returns c =
-    let same : c.in_ok-ok.field-0.now ≡ c.args.word.now = search rules in
-    c.ok-2.ensures.value
-    ∙ number_read c.args.word.now _ c.parse.result (sym c.if-not-is_short.ensures) (sym c.if-not-is_digits.ensures) same c.parse.ensures.value.0
+    subst (λ l. c.fold.result ≡ fold followed (Some 0) l) c.iter.ensures.rest
+    (fold_over fronts (λ y. y.now) _ (λ ys n. n ≡ fold followed (Some 0) ys) _
+    (λ ys a x b f' j k. let more = fold-append followed (Some 0) ys (x.now ∷ []) in search rules)
+    _ _ _ _ (slice_gives c.iter.result) refl c.fold.ensures.ran)
+    ∙ number_read c.args.word.now (sym c.if-not-is_short.ensures)
