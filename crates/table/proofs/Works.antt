@@ -1,5 +1,5 @@
 -- Settling one cell after the other.
-use Rattle.std.proofs.Common.{◌≡◌, ℕ, zero, suc, ◌+◌, ◌-◌, ◌<◌, List, [], ◌∷◌, Some, None, sym, refl, ap, ◌∙◌, suc-add, zero-add, arith}
+use Rattle.std.proofs.Common.{◌≡◌, ℕ, zero, suc, ◌+◌, ◌-◌, ◌<◌, ◌≤◌, List, [], ◌∷◌, Some, None, sym, refl, ap, ◌∙◌, suc-add, zero-add, arith}
 use Rattle.flow.specs.Relation.{Rule}
 use Rattle.paths.specs.Supergraph.{Supergraph}
 use Rattle.paths.specs.Tabled.{Tabled, cell_at, settle, work_one, work}
@@ -73,3 +73,10 @@ in_portions h end k t u e = record {
       portions h.graph h.rule h.points h.facts end k j t
       ∙ sym (ap (λ (x : Tabled). work h.graph h.rule h.points h.facts j end x) e);
 }
+
+-- few cells are k where none waits after them
+pub few_all : (h : Handed) (end : End) (k few : ℕ) (t u : Tabled) → few ≤ k → Portions h few end t u → u.waiting ≡ [] → u ≡ work h.graph h.rule h.points h.facts k end t
+few_all h end k few t u l p w =
+    let q : few + (k - few) ≡ k = omega arith in
+    sym (idle h.graph h.rule h.points h.facts end (k - few) u (sym (ap (taken_from end) w)))
+    ∙ (sym (p.more (k - few)) ∙ ap (λ (n : ℕ). work h.graph h.rule h.points h.facts n end t) q)

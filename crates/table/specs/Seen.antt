@@ -8,4 +8,4 @@ use Rattle.table.specs.declared.seen.Seen.{Seen}
 
 -- each is the statement at its point
 abbrev pub Recalls : Meaning → Seen → Type 0
-Recalls m seen = (n : ℕ) (s : Statement Cell) → slice_get seen.statements n ≡ Some (Some s) → slice_get m.statements n ≡ Some s
+Recalls m seen = (n : ℕ) (s : Statement Cell) → slice_get seen.statements.now n ≡ Some (Some s) → slice_get m.statements n ≡ Some s

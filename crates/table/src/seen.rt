@@ -1,5 +1,5 @@
 // The statements that one call of a table has read. A program may be another at each call, so they are not kept from call to call.
-ghost use Rattle.std.specs.Prelude.{◌≡◌};
+ghost use Rattle.std.specs.Prelude.{◌≡◌, length, replicate, None};
 ghost use Rattle.listing.specs.Meaning.{Meaning, statement_at};
 ghost use Rattle.table.specs.Seen.{Recalls};
 
@@ -7,22 +7,19 @@ use listing::numbers::{Cell, Point};
 use listing::program::Program;
 use listing::statement::Statement;
 
-// A program has so many points at most.
-const POINTS: usize = 1000;
-
-// The statements of the points at which one was read.
+// The statements of the points at which one was read, each at its place in memory that is lent. At a point without a place none is kept.
 #[derive(Drop)]
-pub(crate) struct Seen {
-    statements: [Option<Statement<Cell>>; POINTS],
+pub(crate) struct Seen<'a> {
+    statements: &'a mut [Option<Statement<Cell>>],
 }
 
-impl Seen {
-    pub fn none() -> Seen
+impl<'a> Seen<'a> {
+    // None has been read.
+    pub fn over(statements: &'a mut [Option<Statement<Cell>>]) -> Seen<'a>
+        requires { statements.now ≡ replicate (length statements.now) None }
         ensures { (m : Meaning) → Recalls m result }
     {
-        Seen {
-            statements: [None; POINTS],
-        }
+        Seen { statements }
     }
 
     // The statement at a point, which is read where it was not before.
@@ -32,7 +29,7 @@ impl Seen {
         ensures recalls { Recalls (P.meaning program.now) self.new }
     {
         let at = usize::from(n.0);
-        if at >= POINTS {
+        if at >= self.statements.len() {
             return program.statement(n);
         }
         if let Some(statement) = self.statements[at] {

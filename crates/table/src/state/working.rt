@@ -6,6 +6,7 @@ ghost use Rattle.moves.specs.declared.moves.Kind.TheVariants as kind;
 ghost use Rattle.paths.specs.Table.{cell, number_of};
 ghost use Rattle.paths.specs.Tabled.{find, is_found, work};
 ghost use Rattle.table.specs.Own.{OwnFields};
+ghost use Rattle.table.specs.Seen.{Recalls};
 ghost use Rattle.table.specs.State.{inner, state, spare, Kept, Serves};
 ghost use Rattle.table.specs.Settling.{Enters};
 ghost use Rattle.table.specs.Told.{one_if_yes, number_given, CountsStay, Stops, Portions};
@@ -19,6 +20,12 @@ use listing::program::Program;
 use paths::analysis::Analysis;
 use paths::worklist::End;
 use records::fault::Fault;
+
+// So many cells are settled before any statement is kept: clearing the memory for them takes as long as reading some of them again.
+const SETTLED_FIRST: u32 = 32;
+
+// A program has so many points at most.
+const POINTS: usize = 1000;
 
 // The entry of a procedure, if the program has it.
 fn entry_of<P: Program>(program: &P, p: Proc) -> Option<Point>
@@ -60,12 +67,36 @@ impl Core {
         ensures portions { Portions (handed_by P.Program Q.Problem on.now) k end (inner self.old) (inner self.new) }
         ensures spare { spare self.new ≡ spare self.old }
     {
-        let mut seen = Seen::none();
+        let first = self.settle_each(on, &mut Seen::over(&mut []), k.min(SETTLED_FIRST), end);
+        if first < SETTLED_FIRST || first == k {
+            return first;
+        }
+        let mut statements = [None; POINTS];
+        first + self.settle_each(on, &mut Seen::over(&mut statements), k - first, end)
+    }
+
+    // The same, with the statements that were read, to which those are added that it reads.
+    fn settle_each<P: Program, Q: Problem>(
+        &mut self,
+        on: &Analysis<P, Q>,
+        seen: &mut Seen,
+        k: u32,
+        end: End,
+    ) -> u32
+        requires recalls { Recalls (P.meaning on.now.program.now) seen.old }
+        requires serves { Serves (handed_by P.Program Q.Problem on.now) self.old }
+        ensures count { (inner self.new).settled ≡ (inner self.old).settled + result }
+        ensures after { inner self.new ≡ (let h = handed_by P.Program Q.Problem on.now in work h.graph h.rule h.points h.facts k end (inner self.old)) }
+        ensures counts { CountsStay (inner self.old) (inner self.new) }
+        ensures stops { Stops k result (inner self.new).waiting }
+        ensures portions { Portions (handed_by P.Program Q.Problem on.now) k end (inner self.old) (inner self.new) }
+        ensures spare { spare self.new ≡ spare self.old }
+    {
         for done in 0..k {
             let Some(cell) = self.take(end) else {
                 return done;
             };
-            self.settle(on, &mut seen, cell);
+            self.settle(on, seen, cell);
         }
         k
     }

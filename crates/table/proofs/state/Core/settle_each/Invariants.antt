@@ -3,7 +3,7 @@ use Rattle.paths.specs.Handing.{handed_by}
 use Rattle.paths.specs.Tabled.{work}
 use Rattle.table.specs.Seen.{Recalls}
 use Rattle.table.specs.State.{inner, spare}
-use Rattle.table.proofs.state.Core.settle_some.Given as goal
+use Rattle.table.proofs.state.Core.settle_each.Given as goal
 
 -- what is left to do gives the end
 abbrev pub invariant-loop-done : goal.invariant-loop-done
