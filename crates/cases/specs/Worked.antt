@@ -1,5 +1,5 @@
 -- The worked cases: what listings mean or how they are refused, what the tabulation finds on three of them, trails, and the check of words.
-use Rattle.std.specs.Prelude.{◌≡◌, ℕ, ◌*◌, ◌-◌, ◌↔◌, List, [], ◌∷◌, ◌++◌, map, length, take, replicate, Some, None, Ok, Err, codes, Option, Result}
+use Rattle.std.specs.Prelude.{◌≡◌, ℕ, ◌*◌, ◌-◌, ◌↔◌, List, [], ◌∷◌, map, length, take, replicate, Some, None, Ok, Err, codes, Option, Result}
 use Rattle.std.specs.List.{flat_map}
 use mathlib.Core.List.{Memᴰ}
 use Rattle.listing.specs.Meaning.{Meaning, totals, point, proc}
@@ -21,9 +21,15 @@ use Rattle.paths.specs.Checked.{check_no}
 use Rattle.paths.specs.Does.{Handed, gives, refuses, no, writes, open_answer, sow_no, close_answer, begun, line_turn, foot_turn, trail_turn}
 use Rattle.paths.specs.Handing.{posed}
 use Rattle.paths.specs.Law.{Reached}
+use Rattle.paths.specs.Machine as machine
+use Rattle.paths.specs.Machine.{State}
 use Rattle.paths.specs.Memory.{blank}
 use Rattle.paths.specs.Page.{pairs_of, report_text}
-use Rattle.paths.specs.Tabled.{Tabled, newly_in, work}
+use Rattle.paths.specs.Rows.{pairs_below}
+use Rattle.paths.specs.Table.{cell}
+use Rattle.paths.specs.Tabled.{Tabled, newly_in, sow, work}
+use Rattle.paths.specs.Trail.{trail}
+use Rattle.paths.specs.Words.{spelt}
 use Rattle.paths.specs.declared.worklist.End.{End}
 use Rattle.paths.specs.declared.worklist.End.TheVariants.{Oldest, Newest}
 use Rattle.starts.specs.Sown.{sown_all, latest_first}
@@ -95,6 +101,16 @@ table_from end choice t = run_out end (handed_of choice t) (sown choice t)
 abbrev pub table : Choice → List ℕ → Tabled
 table choice t = table_from Oldest choice t
 
+-- starts sown one after the other in the machine of which the theorems over paths speak
+abbrev pub machine_sown : Handed → List Start → State → State
+machine_sown h [] m = m
+machine_sown h (s ∷ ss) m = machine_sown h ss (machine.sow h.graph h.rule h.points h.facts s.procedure.0 s.fact.0 m)
+
+-- its run, with the default starts sown
+abbrev pub machine_from : End → Choice → List ℕ → State
+machine_from end choice t =
+    let h = handed_of choice t in machine.work h.graph h.rule h.points h.facts 100 end (machine_sown h (defaults choice t) machine.opened)
+
 -- a call-matched path from one of the default starts ends at point n with fact d
 abbrev pub Reaches : Choice → List ℕ → ℕ → ℕ → Type 0
 Reaches choice t n d = Reached (handed_of choice t) (latest_first (defaults choice t) []) n d
@@ -149,11 +165,18 @@ pub record Worked : Type 0 where
   pub none_waits_a : close_answer (table Unset listing_a).waiting ≡ gives 0
   pub newest_pairs_a : pairs_of (table_from Newest Unset listing_a) ≡ listed_a
   pub newest_cells_a : (table_from Newest Unset listing_a).settled ≡ 16
+  pub machine_pairs_a : pairs_below 4 6 (machine_from Newest Unset listing_a) ≡ listed_a
+  pub machine_cells_a : (machine_from Newest Unset listing_a).settled ≡ 16
   pub exact_a : ListsReached Unset listing_a
   pub not_past_a : Reaches Unset listing_a 2 1 → ⊥
   -- B under raw. A return to every caller would reach (4, 2)
   pub pairs_b : length (pairs_of (table Raw listing_b)) ≡ 11
   pub cells_b : (table Raw listing_b).settled ≡ 11
+  pub found_b : (table Raw listing_b).found ≡ 11
+  pub machine_pairs_b : length (pairs_below 3 6 (machine_from Oldest Raw listing_b)) ≡ 11
+  pub machine_cells_b : (machine_from Oldest Raw listing_b).settled ≡ 11
+  pub machine_found_b : (machine_from Oldest Raw listing_b).found ≡ 11
+  pub machine_trail_b : spelt (trail (handed_of Raw listing_b).graph (machine_from Oldest Raw listing_b).table (cell 3 0 1)) ≡ words_b
   pub none_waits_b : close_answer (table Raw listing_b).waiting ≡ gives 0
   pub exact_b : ListsReached Raw listing_b
   pub reaches_b : Reaches Raw listing_b 3 1
@@ -173,6 +196,7 @@ pub record Worked : Type 0 where
   pub few_records_c : open_answer (handed_of Unset listing_c) (replicate 17 blank) ≡ refuses 11
   pub none_sown_c : report_text (run_out Oldest (handed_of Unset listing_c) (opened (handed_of Unset listing_c))) ≡ listed (codes "pairs 0 cells 0" ∷ [])
   pub waits_c : close_answer (sown Unset listing_c).waiting ≡ refuses 14
+  pub cells_c : (table Unset listing_c).settled ≡ 7
   pub none_waits_c : close_answer (table Unset listing_c).waiting ≡ gives 0
   pub report_c : report_text (table Unset listing_c)
       ≡ listed (codes "0 0" ∷ codes "0 1" ∷ codes "0 2" ∷ codes "1 0" ∷ codes "1 1" ∷ codes "1 2" ∷ codes "pairs 6 cells 7" ∷ [])
@@ -185,6 +209,7 @@ pub record Worked : Type 0 where
   pub exact_raw_c : ListsReached Raw listing_c
   -- starts that are sown again or refused: a procedure and a fact out of range, and a problem of other counts
   pub sown_again_c : sown_all (handed_of Unset listing_c) (defaults Unset listing_c) (sown Unset listing_c) ≡ sown Unset listing_c
+  pub sown_twice_c : (let h = handed_of Unset listing_c in sow h.graph h.rule h.points h.facts 0 1 (sown Unset listing_c)) ≡ sown Unset listing_c
   pub no_procedure_c : sow_no (handed_of Unset listing_c) 1 0 (sown Unset listing_c) ≡ Some 13
   pub no_fact_c : sow_no (handed_of Unset listing_c) 0 3 (sown Unset listing_c) ≡ Some 13
   pub others_c : sow_no (handed_of Raw listing_b) 0 0 (sown Unset listing_c) ≡ Some 12

@@ -4,7 +4,7 @@ use Rattle.listing.specs.Meaning.{Meaning}
 use Rattle.draft.specs.declared.question.Refusal.{Refusal}
 use Rattle.flow.specs.Choices.{starts_of}
 use Rattle.flow.specs.declared.choice.Choice.{Choice}
-use Rattle.paths.specs.Handing.{posed}
+pub use Rattle.paths.specs.Handing.{posed}
 use Rattle.paths.specs.declared.worklist.End.{End}
 use Rattle.text.specs.Reading.{reading}
 use Rattle.telling.specs.Telling.{told_by, HoldsBy}

@@ -2,7 +2,7 @@
 use Rattle.std.specs.Prelude.{ℕ, List, [], ◌∷◌, ◌++◌, length, take, Some, None, codes, decimal, Option}
 use Rattle.moves.specs.declared.moves.Move.{Move}
 use Rattle.moves.specs.Words.{decode}
-pub use Rattle.move_text.specs.Lines.{opened, move_text}
+pub use Rattle.move_text.specs.Lines.{kind_text, item_text, line_text, opened, move_text}
 
 -- the verdict: a path, or the number and the place of a no
 abbrev pub verdict_text : Option (ℕ × ℕ) → List ℕ
